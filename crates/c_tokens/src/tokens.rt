@@ -1,0 +1,36 @@
+//! A token with its place in the source.
+
+use crate::puncts::{HeaderId, Punct};
+use fc_base::{Place, Text};
+
+/// What the spelling of an integer literal says beside its value (C11 6.4.4.1): whether it is decimal, whether it
+/// has the suffix u, and the number of its letters l, from 0 to 2.
+#[derive(Clone, Copy, Debug, PartialEq, Eq)]
+pub struct NumberKind {
+    pub decimal: bool,
+    pub unsigned: bool,
+    pub longs: u8,
+}
+
+/// What a token is. `CharConst` has the byte of a character constant, `Str` the bytes of a string literal without
+/// its NUL, `HeaderName` the bytes between `<` and `>`, and `Header` is an inclusion that has been carried out.
+#[derive(Debug, Drop)]
+pub enum TokenKind {
+    Name(Text),
+    Number { value: u64, kind: NumberKind },
+    CharConst(u8),
+    Str(Text),
+    Punct(Punct),
+    HeaderName(Text),
+    Header(HeaderId),
+}
+
+/// A token. It starts its line where no other token stands before it there, and is spaced where white space or a
+/// comment stands right before it.
+#[derive(Debug, Drop)]
+pub struct Token {
+    pub kind: TokenKind,
+    pub place: Place,
+    pub starts_line: bool,
+    pub spaced: bool,
+}

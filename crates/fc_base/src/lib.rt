@@ -1,0 +1,18 @@
+//! The words that every layer shares: faults, refusals, places, texts, the outside world, and what a run shows.
+#![tactic(auto)]
+
+mod faults;
+mod levels;
+mod outside;
+mod refusals;
+mod rules;
+mod texts;
+mod undefined;
+
+pub use faults::{Failed, FetchFault, KeepFault, NoMemory};
+pub use levels::{End, Level, Mode, Width, extend};
+pub use outside::{Sink, Source, Store};
+pub use refusals::{Fault, Place, Refusal};
+pub use rules::Rule;
+pub use texts::{Text, Words};
+pub use undefined::UndefKind;
