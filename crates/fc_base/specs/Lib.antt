@@ -1,3 +1,5 @@
+pub mod Events
 pub mod Names
 pub mod Outside
+pub mod Runs
 pub mod Widths

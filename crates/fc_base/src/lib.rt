@@ -6,6 +6,7 @@ mod levels;
 mod outside;
 mod refusals;
 mod rules;
+mod runs;
 mod texts;
 mod undefined;
 
@@ -14,5 +15,6 @@ pub use levels::{End, Level, Mode, Width, extend};
 pub use outside::{Sink, Source, Store};
 pub use refusals::{Fault, Place, Refusal};
 pub use rules::Rule;
+pub use runs::follows_composes;
 pub use texts::{Text, Words};
 pub use undefined::UndefKind;

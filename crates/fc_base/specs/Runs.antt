@@ -1,0 +1,66 @@
+-- What a run shows and how it stands at a bound on its steps: the words of the plain meaning, of modules and of
+-- the machine. This project's own.
+use Rattle.std.specs.Prelude.{◌≡◌, ℕ, ◌≤◌, ◌==◌, List, [], ◌∷◌, ◌++◌, map, filter, Option}
+use Rattle.fc_base.specs.Outside.{IsFront, Takes, Appends}
+use Rattle.fc_base.specs.declared.levels.End.{End}
+use Rattle.fc_base.specs.declared.undefined.UndefKind.{UndefKind}
+use Rattle.fc_base.specs.declared.refusals.Place.{Place}
+
+-- bytes in the order in which they were taken or written, each behind its descriptor: 0 is standard input, 1
+-- standard output and 2 standard error
+abbrev pub Shown : Type 0
+Shown = List (ℕ × ℕ)
+
+-- bytes that move on one descriptor
+abbrev pub on_descriptor : ℕ → List ℕ → Shown
+on_descriptor descriptor bytes = map (λ byte. (descriptor, byte)) bytes
+
+-- the bytes that moved on a descriptor
+abbrev pub bytes_on : ℕ → Shown → List ℕ
+bytes_on descriptor list = map (λ pair. pair.1) (filter (λ pair. pair.0 == descriptor) list)
+
+-- how a run stands at a bound
+pub data Standing : Type 0 where
+  Ended : End → Standing
+  Undefined : UndefKind → Place → Standing
+  Going : Standing
+
+-- what is shown and how it stands, at each bound
+abbrev pub Runs : Type 0
+Runs = ℕ → Shown × Standing
+
+-- the list begins with the front
+abbrev pub Begins : Shown → Shown → Type 0
+Begins list front = (rest : Shown) × (list ≡ front ++ rest)
+
+-- b does what a does, up to a's first undefined operation. An end that a reaches within n steps b reaches within
+-- limit n, and where a goes on, so does b
+pub record Follows (limit : ℕ → ℕ) (b a : Runs) : Type 0 where
+  pub ends : (n : ℕ) (list : Shown) (end : End) → a n ≡ (list, Ended end) → (m : ℕ) × (m ≤ limit n) × (b m ≡ (list, Ended end))
+  pub goes_on : (n : ℕ) (list : Shown) → a n ≡ (list, Going) → (m : ℕ) × (n ≤ m) × (b m ≡ (list, Going))
+  pub until : (n : ℕ) (list : Shown) (kind : UndefKind) (place : Place) → a n ≡ (list, Undefined kind place) → (m : ℕ) × Begins (b m).0 list
+
+-- a larger number has no smaller image
+abbrev pub IsMonotone : (ℕ → ℕ) → Type 0
+IsMonotone f = (n m : ℕ) → n ≤ m → f n ≤ f m
+
+-- following composes
+abbrev pub FollowsComposes : Type 0
+FollowsComposes = (f g : ℕ → ℕ) → IsMonotone g → (a b c : Runs) → Follows f b a → Follows g c b → Follows (λ n. g (f n)) c a
+
+-- what the library's rows act on: the bytes left on descriptor 0, and what has moved so far
+pub record World : Type 0 where
+  pub input : List ℕ
+  pub shown : Shown
+
+-- the outside objects took and wrote what is shown and nothing else, where they tell it
+pub record Moves (shown : Shown) (input input' out out' err err' : Option (List ℕ)) : Type 0 where
+  pub taken : Takes (bytes_on 0 shown) input input'
+  pub on_out : Appends (bytes_on 1 shown) out out'
+  pub on_err : Appends (bytes_on 2 shown) err err'
+
+-- before a fault: they took and wrote what is shown, and at each of them a front of what comes next
+pub record MovesUpTo (shown next : Shown) (input input' out out' err err' : Option (List ℕ)) : Type 0 where
+  pub taken : (front : List ℕ) × IsFront front (bytes_on 0 next) × Takes (bytes_on 0 shown ++ front) input input'
+  pub on_out : (front : List ℕ) × IsFront front (bytes_on 1 next) × Appends (bytes_on 1 shown ++ front) out out'
+  pub on_err : (front : List ℕ) × IsFront front (bytes_on 2 next) × Appends (bytes_on 2 shown ++ front) err err'
