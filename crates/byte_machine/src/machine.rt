@@ -4,7 +4,9 @@ ghost use Rattle.std.specs.Prelude.{◌≡◌, ◌≢◌, ℕ, ◌+◌, ◌≤�
 ghost use Rattle.fc_base.specs.Outside.{Rose};
 ghost use Rattle.byte_machine.specs.Images.{end_of, memset_chk};
 ghost use Rattle.byte_machine.specs.State.{memory_size, are_valid, put};
+ghost use Rattle.byte_machine.specs.Machines.{Advances, FailsAfter};
 ghost use Rattle.byte_machine.specs.Performing.{Performs};
+ghost use Rattle.fc_base.specs.declared.levels.End.{End};
 
 use crate::images::FnRec;
 use bm_isa::Instr;
@@ -62,6 +64,74 @@ impl Model for Machine {
     ghost view = { loaded_of };
 
     ghost invariant = { IsRunnable };
+}
+
+impl Machine {
+    /// One instruction. A stopped machine answers its stop again and touches nothing.
+    pub fn step<I: Source, O: Sink, E: Sink>(
+        &mut self,
+        input: &mut I,
+        out: &mut O,
+        err: &mut E,
+    ) -> Step
+        ensures again { IfSome self.old.core.stopped (λ stop. (result ≡ Step.Stopped stop) × (self.new ≡ self.old) × (err.new ≡ err.old)) }
+        ensures untouched { (input.new ≡ input.old) × (out.new ≡ out.old) }
+        ensures program { (self.new.functions ≡ self.old.functions) × (self.new.code ≡ self.old.code) }
+        ensures going { self.old.core.stopped ≡ None → result ≡ Step.Going → (self.new.core.stopped ≡ None)
+            × Advances 1 self.old.code self.old.core self.new.core (I.left input.old) (I.left input.new)
+            (O.written out.old) (O.written out.new) (E.written err.old) (E.written err.new) }
+        ensures ended { (end : End) → self.old.core.stopped ≡ None → result ≡ Step.Stopped (Stop.Ended end) → (self.new.core.stopped ≡ Some (Stop.Ended end))
+            × Advances 1 self.old.code self.old.core self.new.core (I.left input.old) (I.left input.new)
+            (O.written out.old) (O.written out.new) (E.written err.old) (E.written err.new) }
+        ensures failed { self.old.core.stopped ≡ None → result ≡ Step.Stopped Stop.ErrFault → (self.new.core.stopped ≡ Some Stop.ErrFault)
+            × Rose (E.count err.old) (E.count err.new)
+            × FailsAfter 0 2 self.old.code self.old.core (I.left input.old) (I.left input.new)
+            (O.written out.old) (O.written out.new) (E.written err.old) (E.written err.new) }
+        // No instruction so far asks for input or writes on standard output.
+        ensures only { self.old.core.stopped ≡ None →
+            (result ≢ Step.Stopped Stop.OutOfSteps) × (result ≢ Step.Stopped Stop.InputFault) × (result ≢ Step.Stopped Stop.OutFault) }
+    {
+        match self.stopped {
+            Some(stop) => Step::Stopped(stop),
+            None => self.advance(err),
+        }
+    }
+
+    /// At most `budget` instructions, up to a stop.
+    pub fn run<I: Source, O: Sink, E: Sink>(
+        &mut self,
+        input: &mut I,
+        out: &mut O,
+        err: &mut E,
+        budget: u64,
+    ) -> Stop
+        ensures again { IfSome self.old.core.stopped (λ stop. (result ≡ stop) × (self.new ≡ self.old) × (err.new ≡ err.old)) }
+        ensures untouched { (input.new ≡ input.old) × (out.new ≡ out.old) }
+        ensures program { (self.new.functions ≡ self.old.functions) × (self.new.code ≡ self.old.code) }
+        ensures ended { (end : End) → self.old.core.stopped ≡ None → result ≡ Stop.Ended end → (self.new.core.stopped ≡ Some (Stop.Ended end))
+            × ((m : ℕ) × (m ≤ budget) × Advances m self.old.code self.old.core self.new.core (I.left input.old) (I.left input.new)
+            (O.written out.old) (O.written out.new) (E.written err.old) (E.written err.new)) }
+        ensures out_of_steps { self.old.core.stopped ≡ None → result ≡ Stop.OutOfSteps → (self.new.core.stopped ≡ None)
+            × Advances budget self.old.code self.old.core self.new.core (I.left input.old) (I.left input.new)
+            (O.written out.old) (O.written out.new) (E.written err.old) (E.written err.new) }
+        ensures failed { self.old.core.stopped ≡ None → result ≡ Stop.ErrFault → (self.new.core.stopped ≡ Some Stop.ErrFault)
+            × Rose (E.count err.old) (E.count err.new)
+            × ((m : ℕ) × (m < budget) × FailsAfter m 2 self.old.code self.old.core (I.left input.old) (I.left input.new)
+            (O.written out.old) (O.written out.new) (E.written err.old) (E.written err.new)) }
+        // No instruction so far asks for input or writes on standard output.
+        ensures only { self.old.core.stopped ≡ None → (result ≢ Stop.InputFault) × (result ≢ Stop.OutFault) }
+    {
+        if let Some(stop) = self.stopped {
+            return stop;
+        }
+        for _turn in 0..budget {
+            match self.advance(err) {
+                Step::Going => {}
+                Step::Stopped(stop) => return stop,
+            }
+        }
+        Stop::OutOfSteps
+    }
 }
 
 impl Machine {
