@@ -2,3 +2,4 @@ pub mod Commands
 pub mod Forms
 pub mod Outcomes
 pub mod Spelling
+pub mod Fort
