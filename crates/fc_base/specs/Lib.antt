@@ -1,3 +1,4 @@
+pub mod MemoryStreams
 pub mod Names
 pub mod Outside
 pub mod Widths
