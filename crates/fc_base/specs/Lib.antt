@@ -1,3 +1,5 @@
+pub mod Counts
+pub mod MemoryStore
 pub mod MemoryStreams
 pub mod Names
 pub mod Outside

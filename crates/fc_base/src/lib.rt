@@ -3,6 +3,7 @@
 
 mod faults;
 mod levels;
+mod memory_store;
 mod memory_streams;
 mod outside;
 mod refusals;
@@ -12,6 +13,7 @@ mod undefined;
 
 pub use faults::{Failed, FetchFault, KeepFault, NoMemory};
 pub use levels::{End, Level, Mode, Width, extend};
+pub use memory_store::MemStore;
 pub use memory_streams::{MemSink, MemSource};
 pub use outside::{Sink, Source, Store};
 pub use refusals::{Fault, Place, Refusal};

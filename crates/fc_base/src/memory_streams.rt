@@ -26,9 +26,9 @@ impl Model for MemSource {
     ghost Value = { SourceState };
 
     ghost view = { λ source. record {
-        left = drop source.taken source.bytes.items;
-        fails_after = option_map (λ at. at - source.taken) source.fails_at;
-        faults = source.faults
+      left = drop source.taken source.bytes.items;
+      fails_after = option_map (λ at. at - source.taken) source.fails_at;
+      faults = source.faults;
     } };
 
     ghost invariant = { λ source. (source.taken ≤ vec_len source.bytes)
@@ -126,9 +126,9 @@ impl Model for MemSink {
     ghost Value = { SinkState };
 
     ghost view = { λ sink. record {
-        written = sink.bytes.items;
-        room_left = sink.room - vec_len sink.bytes;
-        faults = sink.faults
+      written = sink.bytes.items;
+      room_left = sink.room - vec_len sink.bytes;
+      faults = sink.faults;
     } };
 
     ghost invariant = { λ sink. (vec_len sink.bytes ≤ sink.room) × (sink.room ≤ vec_capacity sink.bytes) };
@@ -183,5 +183,49 @@ impl Sink for MemSink {
 
     fn faults(&self) -> u64 {
         self.faults
+    }
+}
+
+#[cfg(test)]
+mod tests {
+    use super::*;
+    use std::test::Fail;
+
+    /// What each read into three bytes answers, of a source that fails at 2 of 4 bytes and of one that never fails.
+    #[test]
+    fn reads_to_the_failure_or_the_end(rt: HostRuntime) -> Result<(), Fail> {
+        let alloc = rt.alloc();
+        let mut failing = MemSource::failing(alloc, b"abcd", 2)?;
+        let mut whole = MemSource::new(alloc, b"abcd")?;
+        let mut buf = [0; 3];
+        for (of_failing, of_whole) in [(Ok(2), Ok(3)), (Err(Failed), Ok(1)), (Err(Failed), Ok(0))] {
+            assert_eq!(rt; failing.read(&mut buf), of_failing);
+            assert_eq!(rt; whole.read(&mut buf), of_whole);
+        }
+        assert_eq!(rt; failing.read(&mut []), Ok(0));
+        assert_eq!(rt; (failing.faults(), whole.faults()), (2, 0));
+        assert_eq!(rt; buf, *b"dbc");
+        Ok(())
+    }
+
+    /// What stands in a sink of each room from 0 on after a piece, and after the piece again.
+    const WRITTEN: [(&str, &str); 5] = [
+        ("", ""),
+        ("a", "a"),
+        ("ab", "ab"),
+        ("abc", "abc"),
+        ("abc", "abca"),
+    ];
+
+    #[test]
+    fn writes_up_to_the_room(rt: HostRuntime) -> Result<(), Fail> {
+        for (room, (once, twice)) in WRITTEN.iter().enumerate() {
+            let mut sink = MemSink::sized(rt.alloc(), room)?;
+            assert_eq!(rt; sink.write(b"abc").is_err(), room < 3, "{room}");
+            assert_eq!(rt; sink.bytes(), once.as_bytes(), "{room}");
+            assert_eq!(rt; sink.write(b"abc").is_err(), room < 6, "{room}");
+            assert_eq!(rt; sink.bytes(), twice.as_bytes(), "{room}");
+        }
+        Ok(())
     }
 }
