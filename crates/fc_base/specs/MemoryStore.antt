@@ -1,5 +1,5 @@
 -- The store in memory, as contracts see it, and what its calls answer. This project's own.
-use Rattle.std.specs.Prelude.{◌≡◌, ℕ, ◌<◌, Bool, true, false, nat_lt, nat_eq, if◌then◌else◌, List, length, ⊤, Option, None, Some, Result, Ok, Err, unwrap_or, Vec}
+use Rattle.std.specs.Prelude.{◌≡◌, ℕ, Bool, true, false, nat_lt, nat_eq, if◌then◌else◌, List, length, ⊤, Option, None, Some, Result, Ok, Err, unwrap_or, Vec}
 use Rattle.std.specs.Option.{option_map}
 use Rattle.std.specs.List.{list_any}
 use Rattle.std.specs.BTreeMap.{get_by_text}
@@ -96,3 +96,11 @@ pub record KeepsCounts (old new : MemStore) : Type 0 where
   pub keeps : (name : List ℕ) → keep_count_of new name ≡ keep_count_of old name
   pub failing : failing_of new ≡ failing_of old
   pub calls : calls_of new ≡ calls_of old
+
+-- a new store: no files, no failures, the numbers of the calls that are to fail, and all calls ahead
+pub record IsNew (numbers : List ℕ) (store : MemStore) : Type 0 where
+  pub files : (name : List ℕ) → files_of store name ≡ None
+  pub fetches : (name : List ℕ) → fetch_count_of store name ≡ 0
+  pub keeps : (name : List ℕ) → keep_count_of store name ≡ 0
+  pub failing : failing_of store ≡ numbers
+  pub calls : calls_of store ≡ 0

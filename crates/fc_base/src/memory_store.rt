@@ -3,7 +3,7 @@
 ghost use Rattle.std.specs.Prelude.{◌≡◌, ◌≢◌, ℕ, ◌<◌, ◌≤◌, List, [], length, vec_len, option_copied, option_map, None, Some, Err, IfOk, OnOk, OnErr, IsSome, IsSomeAnd};
 ghost use Rattle.std.specs.BTreeMap.{get_by_text};
 ghost use Rattle.fc_base.specs.Counts.{one_more};
-ghost use Rattle.fc_base.specs.MemoryStore.{count_of, files_of, fetch_count_of, keep_count_of, failing_of, calls_of, fails_next, fetched, AnswersFetch, AnswersKeep, faults_after_fetch, calls_after_fetch, faults_after_keep, calls_after_keep, KeepsCounts};
+ghost use Rattle.fc_base.specs.MemoryStore.{count_of, files_of, fetch_count_of, keep_count_of, failing_of, calls_of, fails_next, fetched, AnswersFetch, AnswersKeep, faults_after_fetch, calls_after_fetch, faults_after_keep, calls_after_keep, KeepsCounts, IsNew};
 ghost use Rattle.fc_base.specs.Outside.{last_count, Puts, KeepsOthers, Counts, Rose};
 
 use crate::faults::{FetchFault, KeepFault, NoMemory};
@@ -71,11 +71,7 @@ pub struct MemStore {
 impl MemStore {
     /// An empty store that fails no call but the fetch of a missing name.
     pub fn new(alloc: Global) -> MemStore
-        ensures files { (name : List ℕ) → files_of result name ≡ None }
-        ensures fetches { (name : List ℕ) → fetch_count_of result name ≡ 0 }
-        ensures keeps { (name : List ℕ) → keep_count_of result name ≡ 0 }
-        ensures failing { failing_of result ≡ [] }
-        ensures calls { calls_of result ≡ 0 }
+        ensures { IsNew [] result }
     {
         MemStore {
             alloc,
@@ -89,11 +85,7 @@ impl MemStore {
 
     /// An empty store that also fails the calls with these numbers, counted from 0 over `fetch` and `keep`.
     pub fn failing(alloc: Global, calls: &[u64]) -> Result<MemStore, NoMemory>
-        ensures files { IfOk result (λ store. (name : List ℕ) → files_of store name ≡ None) }
-        ensures fetches { IfOk result (λ store. (name : List ℕ) → fetch_count_of store name ≡ 0) }
-        ensures keeps { IfOk result (λ store. (name : List ℕ) → keep_count_of store name ≡ 0) }
-        ensures failing { IfOk result (λ store. failing_of store ≡ calls.now) }
-        ensures calls { IfOk result (λ store. calls_of store ≡ 0) }
+        ensures { IfOk result (IsNew calls.now) }
     {
         let mut store = MemStore::new(alloc);
         store.failing = Vec::from_slice(alloc, calls)?;
