@@ -52,6 +52,10 @@ last_count = 2 ^ 64 - 1
 abbrev pub Counts : ℕ → ℕ → Type 0
 Counts old new = (old ≤ new) × (new ≤ last_count)
 
+-- a count after one more: at its last value it stands still
+abbrev pub one_more : ℕ → ℕ
+one_more count = min (count + 1) last_count
+
 -- a count that rose in a call, or stands at its last value
 abbrev pub Rose : ℕ → ℕ → Type 0
-Rose old new = min (old + 1) last_count ≤ new
+Rose old new = one_more old ≤ new

@@ -38,7 +38,8 @@ pub trait Store {
     fn keep(&mut self, alloc: Global, name: &str, bytes: &[u8]) -> Result<(), KeepFault>
         ensures kept { OnOk result (Puts name.now bytes.now (files self.old) (files self.new)) }
         ensures others { KeepsOthers name.now (files self.old) (files self.new) }
-        ensures no_memory { result ≡ Err KeepFault.NoMemory → files self.new ≡ files self.old }
+        ensures no_memory { result ≡ Err KeepFault.NoMemory → (files self.new ≡ files self.old)
+            × (keep_count self.new name.now ≡ keep_count self.old name.now) }
         ensures failed { result ≡ Err KeepFault.Failed →
             Rose (keep_count self.old name.now) (keep_count self.new name.now) }
         ensures counts { Counts (keep_count self.old name.now) (keep_count self.new name.now) }
