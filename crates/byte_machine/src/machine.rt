@@ -34,9 +34,12 @@ pub enum Step {
 const OVERFLOW_LINE: &[u8; 45] = b"*** buffer overflow detected ***: terminated\n";
 
 /// The addresses that may be touched begin and end here.
-const FIRST_VALID: u64 = 65_536;
+pub const FIRST_VALID: u64 = 65_536;
 
-const MEMORY_SIZE: u64 = 17_825_792;
+pub const MEMORY_SIZE: u64 = 17_825_792;
+
+/// Where the data section begins.
+pub const DATA_START: u64 = 1_048_576;
 
 /// Where the frame of the first call begins.
 const STACK_START: u64 = 5_242_880;

@@ -28,9 +28,9 @@ IsAtEnd left = IfTold left (λ bytes. bytes ≡ [])
 abbrev pub Appends : List ℕ → Option (List ℕ) → Option (List ℕ) → Type 0
 Appends bytes = Turns (λ old new. new ≡ old ++ bytes)
 
--- the one list of bytes is a front of the other
-abbrev pub IsFront : List ℕ → List ℕ → Type 0
-IsFront front whole = (rest : List ℕ) × (whole ≡ front ++ rest)
+-- the one list is a front of the other
+abbrev pub IsFront : {A : Type 0} → List A → List A → Type 0
+IsFront {A} front whole = (rest : List A) × (whole ≡ front ++ rest)
 
 -- some front of these bytes is appended
 abbrev pub AppendsFront : List ℕ → Option (List ℕ) → Option (List ℕ) → Type 0

@@ -160,6 +160,8 @@ impl Store for MemStore {
         ensures failed { result ≡ Err FetchFault.Failed →
             Rose (fetch_count_of self.old name.now) (fetch_count_of self.new name.now) }
         ensures same_files { Some (files_of self.new) ≡ Some (files_of self.old) }
+        ensures uncounted { result ≢ Err FetchFault.Failed →
+            fetch_count_of self.new name.now ≡ fetch_count_of self.old name.now }
         ensures counts { Counts (fetch_count_of self.old name.now) (fetch_count_of self.new name.now) }
         ensures other_fetches { (other : List ℕ) → other ≢ name.now →
             fetch_count_of self.new other ≡ fetch_count_of self.old other }
@@ -194,8 +196,9 @@ impl Store for MemStore {
             (Puts name.now bytes.now (Some (files_of self.old)) (Some (files_of self.new))) }
         ensures others { KeepsOthers name.now (Some (files_of self.old)) (Some (files_of self.new)) }
         ensures no_memory { result ≡ Err KeepFault.NoMemory →
-            (Some (files_of self.new) ≡ Some (files_of self.old))
-            × (keep_count_of self.new name.now ≡ keep_count_of self.old name.now) }
+            Some (files_of self.new) ≡ Some (files_of self.old) }
+        ensures uncounted { result ≢ Err KeepFault.Failed →
+            keep_count_of self.new name.now ≡ keep_count_of self.old name.now }
         ensures failed { result ≡ Err KeepFault.Failed →
             Rose (keep_count_of self.old name.now) (keep_count_of self.new name.now) }
         ensures counts { Counts (keep_count_of self.old name.now) (keep_count_of self.new name.now) }

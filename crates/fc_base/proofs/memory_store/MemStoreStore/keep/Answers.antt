@@ -6,5 +6,4 @@ pub returns-in-Err-clause-others : goal.returns-in-Err-clause-others
 returns-in-Err-clause-others c = λ other _. ap (λ files. files other) c.in-Err.ensures.no_memory
 
 pub returns-in-Err-clause-no_memory : goal.returns-in-Err-clause-no_memory
-returns-in-Err-clause-no_memory c =
-    λ _. (ap Some c.in-Err.ensures.no_memory, c.in-Err.ensures.counts.keeps c.args.name.now ∙ c.make_room.ensures.same c.args.name.now)
+returns-in-Err-clause-no_memory c = λ _. ap Some c.in-Err.ensures.no_memory
