@@ -3,3 +3,4 @@ pub mod Forms
 pub mod Outcomes
 pub mod Spelling
 pub mod Fort
+pub mod Compiled
