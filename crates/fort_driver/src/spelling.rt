@@ -48,7 +48,14 @@ fn write_header(alloc: Global, image: &Image) -> Result<Vec<u8>, NoMemory>
     let data = image.bytes.len();
     let mut bytes = Vec::with_capacity(alloc, 32 + 20 * functions + 16 * code + data)?;
     bytes.extend_from_slice(b"FC3IMAGE")?;
-    let words = [1, functions as u32, code as u32, data as u32, image.entry, 0];
+    let words = [
+        1,
+        functions as u32,
+        code as u32,
+        data as u32,
+        image.entry,
+        0,
+    ];
     write_words(&mut bytes, &words)?;
     Ok(bytes)
 }

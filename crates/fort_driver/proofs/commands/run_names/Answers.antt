@@ -1,5 +1,5 @@
 -- The three words that were looked at are all.
-use Rattle.std.proofs.Common.{◌≡◌, ℕ, List, [], ◌∷◌, length, Some, slice_get, codes, true, rules, arith}
+use Rattle.std.proofs.Common.{◌≡◌, ℕ, List, [], ◌∷◌, length, Some, slice_get, codes, rules, arith}
 use Rattle.std.specs.Cmp.Lexicographic.{same_text}
 use Rattle.fort_driver.proofs.commands.run_names.Goals as goal
 
@@ -17,5 +17,5 @@ returns-then-ne-2-clause-run c =
     let size : length c.args.words.now ≡ 3 = omega arith in
     let run : c.in_ok-get.field-0.now ≡ codes "run" = search (rules, same_text) in
     let all : c.args.words.now ≡ c.in_ok-get.field-0.now ∷ c.in_ok-file.file.now ∷ c.in_ok-image.image.now ∷ [] =
-        three _ _ _ _ size c.in_ok-get.ensures.word c.in_ok-file.ensures.word c.in_ok-image.ensures.word in
+    three _ _ _ _ size c.in_ok-get.ensures.word c.in_ok-file.ensures.word c.in_ok-image.ensures.word in
     record { kept = search rules; spelled = cc }
