@@ -1,4 +1,5 @@
 pub mod Commands
+pub mod FormReading
 pub mod Forms
 pub mod Outcomes
 pub mod Spelling
