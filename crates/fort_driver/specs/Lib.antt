@@ -1,7 +1,8 @@
 pub mod Commands
+pub mod Compiled
 pub mod FormReading
 pub mod Forms
-pub mod Outcomes
-pub mod Spelling
 pub mod Fort
-pub mod Compiled
+pub mod Outcomes
+pub mod Preparing
+pub mod Spelling

@@ -2,7 +2,9 @@
 #![tactic(auto)]
 
 mod commands;
+mod compiled;
 mod forms;
+mod fort;
 mod outcomes;
 mod spelling;
 

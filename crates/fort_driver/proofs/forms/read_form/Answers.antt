@@ -22,6 +22,12 @@ returns-then-is_end-clause-form c = (
       (sym c.in-Ok.ensures.cases.0 ∙ c.in_ok-form.ensures.found),
 )
 
+pub returns-then-is_end-clause-only : goal.returns-then-is_end-clause-only
+returns-then-is_end-clause-only c = λ form ok spells.
+    let parts = cut_source form c.args.source.now spells in
+    let same = c.in_ok-form.ensures.complete form parts.0 ok (c.in-Ok.ensures.cases.0 ∙ parts.2) in
+    sym same.0
+
 pub returns-else-is_form-clause-other : goal.returns-else-is_form-clause-other
 returns-else-is_form-clause-other c = λ none form ok spells.
     let parts = cut_source form c.args.source.now spells in

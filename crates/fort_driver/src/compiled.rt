@@ -1,0 +1,67 @@
+//! The image that a form is compiled to.
+
+ghost use Rattle.std.specs.Prelude.{◌≡◌, ◌≢◌, ℕ, ◌+◌, List, Err, IfOk};
+ghost use Rattle.byte_machine.specs.Images.{plain_image};
+ghost use Rattle.fort_driver.specs.Compiled.{form_image, form_weight};
+ghost use Rattle.fort_driver.specs.Forms.{IsForm};
+
+use crate::forms::Form;
+use bm_isa::Instr;
+use byte_machine::{FnRec, Image};
+use fc_base::NoMemory;
+use std::alloc::Global;
+
+/// The number of the checked memset among the machine's library calls.
+const MEMSET_CHK: u32 = 73;
+
+/// The weight of the form's main: nine nodes, a return among the joins, no register variable.
+const WEIGHT: u32 = 672;
+
+/// The image of the form: the checked call with the array's place, the byte, the count and the array's size, then the
+/// result.
+pub fn compile(alloc: Global, form: &Form) -> Result<Image, NoMemory>
+    requires { IsForm form.now }
+    ensures { IfOk result (λ image. plain_image image ≡ form_image form.now) }
+{
+    let main = FnRec {
+        first: 0,
+        params: 0,
+        regs: 4,
+        weight: WEIGHT,
+        frame: (form.size + 1).div_ceil(16) * 16,
+    };
+    Ok(Image {
+        functions: vec![in alloc; main]?,
+        code: vec![in alloc;
+            Instr::Slot { to: 0, offset: 0 },
+            Instr::Const {
+                to: 1,
+                number: u64::from(form.byte)
+            },
+            Instr::Const {
+                to: 2,
+                number: u64::from(form.count)
+            },
+            Instr::Const {
+                to: 3,
+                number: u64::from(form.size)
+            },
+            Instr::Argument { from: 0, slot: 0 },
+            Instr::Argument { from: 1, slot: 1 },
+            Instr::Argument { from: 2, slot: 2 },
+            Instr::Argument { from: 3, slot: 3 },
+            Instr::Host {
+                to: 0,
+                call: MEMSET_CHK,
+                count: 4
+            },
+            Instr::Const {
+                to: 0,
+                number: u64::from(form.result)
+            },
+            Instr::Return { from: 0 },
+        ]?,
+        bytes: Vec::new(alloc),
+        entry: 0,
+    })
+}
