@@ -8,7 +8,7 @@ use Rattle.std.proofs.lemmas.Str.Ascii.{IsAscii-nil, IsAscii-cons}
 use Rattle.std.proofs.lemmas.Bool.Decides.{nat_tests}
 use Rattle.std.proofs.lemmas.Fmt.{IsAscii-decimal}
 use Rattle.fort_driver.specs.declared.forms.Form.{Form}
-use Rattle.fort_driver.specs.Forms.{IsForm, Spells, form_text}
+use Rattle.fort_driver.specs.Forms.{IsForm, IsTextOf, form_text}
 use Rattle.fort_driver.specs.FormReading.{field, fields}
 
 -- the form's source, up to a tail
@@ -46,11 +46,11 @@ text_source form source rest ok end e =
     rw e (IsUtf8-from_ascii (fields form rest) all)
 
 -- a form's source, cut into its fields and its end
-pub cut_source : (form : Form) (source : List ℕ) → Spells source form → (rest : List ℕ) × IsEnd rest × (source ≡ fields form rest)
+pub cut_source : (form : Form) (source : List ℕ) → IsTextOf source form → (rest : List ℕ) × IsEnd rest × (source ≡ fields form rest)
 cut_source form source (inl e) = (codes " }", inl refl, e ∙ (sym (append-nil (form_text form)) ∙ text_fields form []))
 cut_source form source (inr e) = (codes " }\n", inr refl, e ∙ text_fields form (10 ∷ []))
 
 -- and joined
-pub joined_source : (form : Form) (source rest : List ℕ) → IsEnd rest → source ≡ fields form rest → Spells source form
+pub joined_source : (form : Form) (source rest : List ℕ) → IsEnd rest → source ≡ fields form rest → IsTextOf source form
 joined_source form source rest (inl end) e = inl (e ∙ (ap (fields form) end ∙ (sym (text_fields form []) ∙ append-nil (form_text form))))
 joined_source form source rest (inr end) e = inr (e ∙ (ap (fields form) end ∙ sym (text_fields form (10 ∷ []))))

@@ -2,7 +2,7 @@
 
 ghost use Rattle.std.specs.Prelude.{◌≡◌, ℕ, ◌<◌, ◌^◌, ◌↔◌, ◌⊎◌, ◌++◌, ◌∷◌, List, [], codes, decimal, Some, IsTrue, IsNone, IfSome, IsSomeAnd};
 ghost use Rattle.std.specs.Int.{IsInRange};
-ghost use Rattle.fort_driver.specs.Forms.{IsForm, Spells};
+ghost use Rattle.fort_driver.specs.Forms.{IsForm, IsTextOf};
 ghost use Rattle.fort_driver.specs.FormReading.{field, fields};
 
 use itoa::Buffer;
@@ -82,8 +82,8 @@ fn is_end(rest: &str) -> bool
 
 /// The form that the source is, with or without a newline at its end.
 pub fn read_form(source: &[u8]) -> Option<Form>
-    ensures form { IfSome result (λ form. IsForm form × Spells source.now form) }
-    ensures other { IsNone result → (form : Form) → IsForm form → Spells source.now form → ⊥ }
+    ensures form { IfSome result (λ form. IsForm form × IsTextOf source.now form) }
+    ensures other { IsNone result → (form : Form) → IsForm form → IsTextOf source.now form → ⊥ }
 {
     let Ok(text) = str::from_utf8(source) else {
         return None;
