@@ -1,7 +1,7 @@
 //! The words of a command line.
 
 ghost use Rattle.std.specs.Prelude.{◌≡◌, ◌≢◌, IsNone, IfSome};
-ghost use Rattle.fort_driver.specs.Commands.{Command, is_name, run_of, IsBuilt, Means};
+ghost use Rattle.fort_driver.specs.Commands.{is_name, run_of, Means, IsUsage};
 
 use fc_base::Words;
 
@@ -18,7 +18,7 @@ fn is_name(word: &str) -> bool
 /// The names of the source and of the image, where the words are `run FILE IMAGE`.
 pub fn run_names(words: &Words) -> Option<(&str, &str)>
     ensures run { IfSome result (λ names. Means words.now (run_of names.0.now names.1.now)) }
-    ensures other { IsNone result → (command : Command) → IsBuilt command → Means words.now command → ⊥ }
+    ensures usage { IsNone result → IsUsage words.now }
 {
     if words.len() != 3 || words.get(0)? != "run" {
         return None;

@@ -9,3 +9,6 @@ mod outcomes;
 mod spelling;
 
 pub use outcomes::{Outcome, fault_line, status};
+
+#[cfg(test)]
+mod tests;
