@@ -1,4 +1,5 @@
 pub mod Agreement
+pub mod Answering
 pub mod Fields
 pub mod Kept
 pub mod Lines

@@ -9,7 +9,7 @@ use Rattle.fc_base.specs.declared.rules.Rule.TheVariants as rules
 use Rattle.byte_machine.specs.Images.{PlainImage, function_at}
 use Rattle.byte_machine.specs.Opening.{ArgumentsFit, first_core, machine_runs, program_of}
 use Rattle.byte_machine.specs.Machines.{Advances, FailsAfter}
-use Rattle.byte_machine.specs.State.{Core}
+use Rattle.byte_machine.specs.State.{Core, Program}
 use Rattle.fort_driver.specs.declared.forms.Form.{Form}
 use Rattle.fort_driver.specs.declared.outcomes.Outcome.{Outcome}
 use Rattle.fort_driver.specs.declared.outcomes.Outcome.TheVariants as outcomes
@@ -73,21 +73,25 @@ pub record Keeps (words : List (List ℕ)) (files files' : Option Files) (image 
 abbrev pub KeepsSome : List (List ℕ) → Option Files → Option Files → Type 0
 KeepsSome words files files' = (image : PlainImage) × Keeps words files files' image
 
--- what an outcome says of the machine on the image with these arguments: it ended within the bound on instructions, or runs
--- at the bound, or an object failed in the instruction after m, which reaches it. No other outcome comes from a run
-abbrev pub Ran : Outcome → PlainImage → List (List ℕ) → (bound : ℕ) → (input input' out out' err err' : Option (List ℕ)) → Type 0
-Ran (outcomes.Ran end) image args bound input input' out out' err err' =
-    (m : ℕ) × (core : Core) × (m ≤ bound) × (core.stopped ≡ Some end)
-    × Advances m (program_of image) (first_core image args) core input input' out out' err err'
-Ran outcomes.OutOfSteps image args bound input input' out out' err err' =
-    (core : Core) × (core.stopped ≡ None) × Advances bound (program_of image) (first_core image args) core input input' out out' err err'
-Ran outcomes.InputFault image args bound input input' out out' err err' =
-    (m : ℕ) × (m < bound) × FailsAfter m 0 (program_of image) (first_core image args) input input' out out' err err'
-Ran outcomes.OutFault image args bound input input' out out' err err' =
-    (m : ℕ) × (m < bound) × FailsAfter m 1 (program_of image) (first_core image args) input input' out out' err err'
-Ran outcomes.ErrFault image args bound input input' out out' err err' =
-    (m : ℕ) × (m < bound) × FailsAfter m 2 (program_of image) (first_core image args) input input' out out' err err'
-Ran _ image args bound input input' out out' err err' = ⊥
+-- what an outcome says of a machine that began so: it ended within the bound on instructions, or runs at the bound, or an
+-- object failed in the instruction after m, which reaches it. No other outcome comes from a run
+abbrev pub Runs : Outcome → (bound : ℕ) → Program → Core → (input input' out out' err err' : Option (List ℕ)) → Type 0
+Runs (outcomes.Ran end) bound program core input input' out out' err err' =
+    (m : ℕ) × (core' : Core) × (m ≤ bound) × (core'.stopped ≡ Some end) × Advances m program core core' input input' out out' err err'
+Runs outcomes.OutOfSteps bound program core input input' out out' err err' =
+    (core' : Core) × (core'.stopped ≡ None) × Advances bound program core core' input input' out out' err err'
+Runs outcomes.InputFault bound program core input input' out out' err err' =
+    (m : ℕ) × (m < bound) × FailsAfter m 0 program core input input' out out' err err'
+Runs outcomes.OutFault bound program core input input' out out' err err' =
+    (m : ℕ) × (m < bound) × FailsAfter m 1 program core input input' out out' err err'
+Runs outcomes.ErrFault bound program core input input' out out' err err' =
+    (m : ℕ) × (m < bound) × FailsAfter m 2 program core input input' out out' err err'
+Runs _ bound program core input input' out out' err err' = ⊥
+
+-- the same of the machine on an image with these arguments
+abbrev pub Ran : Outcome → (bound : ℕ) → PlainImage → List (List ℕ) → (input input' out out' err err' : Option (List ℕ)) → Type 0
+Ran outcome bound image args input input' out out' err err' =
+    Runs outcome bound (program_of image) (first_core image args) input input' out out' err err'
 
 -- the outcomes that come once the machine has begun
 abbrev pub HasRun : Outcome → Type 0
@@ -158,11 +162,18 @@ StoodStill old new = Rose old new → ⊥
 abbrev pub IsAnswer : Outcome → Outcome → Type 0
 IsAnswer result answer = (result ≡ answer) ⊎ (result ≡ outcomes.NoMemory)
 
--- the answer by the bytes under FILE, of a store that tells them and doesn't fail to fetch them. Where no object fails, a
--- form has run, and to its end, since the bound leaves room for all its instructions
-pub record Answers (result : Outcome) (source : List ℕ) (kept err_wrote : Type 0) : Type 0 where
+-- the answer by the bytes under FILE, of a store that tells them and doesn't fail to fetch them. Where no other object fails
+-- either, a form has run, and to its end, since the bound leaves room for all its instructions
+pub record Answers (result : Outcome) (source : List ℕ) (none_failed : Type 0) : Type 0 where
   pub too_long : longest_source < length source → IsAnswer result outcomes.TooLong
   pub refused : length source ≤ longest_source → IsNoForm source → IsAnswer result (outcomes.Refused not_this_form)
-  pub accepted : (form : Form) → IsForm form → IsTextOf source form → kept → err_wrote → HasRun result ⊎ (result ≡ outcomes.NoMemory)
-  pub ended : (form : Form) (end : End) → IsForm form → IsTextOf source form → (form_runs form 0).1 ≡ Ended end → kept → err_wrote
-      → IsAnswer result (outcomes.Ran end)
+  pub accepted : (form : Form) → IsForm form → IsTextOf source form → none_failed → HasRun result ⊎ (result ≡ outcomes.NoMemory)
+  pub ended : (form : Form) (end : End) → IsForm form → IsTextOf source form → (form_runs form 0).1 ≡ Ended end → none_failed
+    → IsAnswer result (outcomes.Ran end)
+
+-- no object failed but in a fetch of FILE: the counts of a keep of IMAGE, of input, out and err stood still
+pub record NoneFailed (keeps keeps' inputs inputs' outs outs' errs errs' : ℕ) : Type 0 where
+  pub keep : StoodStill keeps keeps'
+  pub input : StoodStill inputs inputs'
+  pub out : StoodStill outs outs'
+  pub err : StoodStill errs errs'

@@ -4,11 +4,12 @@
 mod commands;
 mod compiled;
 mod forms;
-mod fort;
 mod outcomes;
 mod spelling;
+mod top;
 
 pub use outcomes::{Outcome, fault_line, status};
+pub use top::fort;
 
 #[cfg(test)]
 mod tests;

@@ -5,7 +5,7 @@ use Rattle.fort_driver.specs.Compiled.{form_image}
 use Rattle.fort_driver.specs.Forms.{IsForm, IsTextOf}
 use Rattle.fort_driver.proofs.Agreement.{let_in}
 use Rattle.fort_driver.proofs.Kept.{long_source, kept_image}
-use Rattle.fort_driver.proofs.fort.prepare.Goals as goal
+use Rattle.fort_driver.proofs.top.prepare.Goals as goal
 
 pub returns-in-Err-TooLong-clause-not_ready : goal.returns-in-Err-TooLong-clause-not_ready
 returns-in-Err-TooLong-clause-not_ready g c =
@@ -16,7 +16,7 @@ pub returns-in-Ok-open-clause-ready : goal.returns-in-Ok-open-clause-ready
 returns-in-Ok-open-clause-ready g c =
     let form = c.in-Some.form in
     let core : c.in-Ok-open.machine.core ≡ first_core (form_image form) [] =
-        c.in-Ok-open.ensures.core ∙ ap (λ i. first_core i c.new.result) c.in-Ok-build.ensures.image ∙ ap (first_core (form_image form)) c.new.ensures in
+    c.in-Ok-open.ensures.core ∙ ap (λ i. first_core i c.new.result) c.in-Ok-build.ensures.image ∙ ap (first_core (form_image form)) c.new.ensures in
     record {
       image = form_image form;
       image_kept = kept_image _ _ _ _ _ _ _ _ form c.in-Ok.ensures.found c.in-Ok.ensures.same_files c.deref.ensures.value
@@ -31,5 +31,8 @@ returns-in-Ok-open-clause-ready g c =
 pub returns-clause-not_ready : goal.returns-clause-not_ready
 returns-clause-not_ready g c =
     let form = c.in-Some.form in
-    inr (form_image form, kept_image _ _ _ _ _ _ _ _ form c.in-Ok.ensures.found c.in-Ok.ensures.same_files c.deref.ensures.value
-          c.in-Some.ensures.form.0 c.in-Some.ensures.form.1 (c.deref-2.ensures.value ∙ c.in-Ok-build.ensures.bytes) c.in-Ok-keep.ensures.kept)
+    inr (
+      form_image form,
+      kept_image _ _ _ _ _ _ _ _ form c.in-Ok.ensures.found c.in-Ok.ensures.same_files c.deref.ensures.value
+          c.in-Some.ensures.form.0 c.in-Some.ensures.form.1 (c.deref-2.ensures.value ∙ c.in-Ok-build.ensures.bytes) c.in-Ok-keep.ensures.kept,
+    )
