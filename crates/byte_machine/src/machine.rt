@@ -1,17 +1,17 @@
 //! The machine while it runs.
 
-ghost use Rattle.std.specs.Prelude.{◌≡◌, ◌≢◌, ℕ, ◌+◌, ◌≤◌, ◌<◌, Option, None, Some, IfSome, true, length, replicate, slice_get};
+ghost use Rattle.std.specs.Prelude.{◌≡◌, ◌≢◌, ℕ, ◌+◌, ◌≤◌, ◌<◌, Option, None, Some, IfSome, IfOk, true, length, replicate, slice_get};
 ghost use Rattle.fc_base.specs.Outside.{Rose};
-ghost use Rattle.byte_machine.specs.Images.{end_of, memset_chk};
+ghost use Rattle.std.specs.Option.{option_map};
+ghost use Rattle.byte_machine.specs.Images.{plain_image, IsImage, function_at, end_of, memset_chk};
 ghost use Rattle.byte_machine.specs.State.{memory_size, are_valid, put};
+ghost use Rattle.byte_machine.specs.Opening.{ArgumentsFit, program_of, first_core, first_end};
 ghost use Rattle.byte_machine.specs.Machines.{Advances, FailsAfter};
 ghost use Rattle.byte_machine.specs.Performing.{Performs};
-ghost use Rattle.byte_machine.specs.Images.{plain_image, IsImage};
-ghost use Rattle.byte_machine.specs.Opening.{ArgumentsFit, program_of, first_core};
-ghost use Rattle.std.specs.Prelude.{IfOk};
 ghost use Rattle.fc_base.specs.declared.levels.End.{End};
 
 use crate::images::{FnRec, Image};
+use crate::opening::{open_memory, open_registers, open_stop};
 use bm_isa::Instr;
 use fc_base::{End, NoMemory, Sink, Source, Words};
 use std::alloc::Global;
@@ -74,6 +74,30 @@ impl Model for Machine {
 }
 
 impl Machine {
+    /// Opens a machine on the image. All memory of a run is taken here.
+    pub fn open(alloc: Global, image: &Image, args: &Words) -> Result<Machine, NoMemory>
+        requires image { IsImage (plain_image image.now) }
+        requires arguments { ArgumentsFit args.now }
+        ensures program { IfOk result (λ machine. machine.program ≡ program_of (plain_image image.now)) }
+        ensures core { IfOk result (λ machine. machine.core ≡ first_core (plain_image image.now) args.now) }
+        ensures stop { IfOk result (λ machine. machine.stop
+            ≡ option_map (λ end. Stop.Ended end) (first_end (function_at (plain_image image.now).functions image.now.entry))) }
+    {
+        let entry = image.functions[image.entry as usize];
+        let memory = open_memory(alloc, image, args)?;
+        let registers = open_registers(alloc, &entry, args)?;
+        Ok(Machine {
+            functions: Vec::from_slice(alloc, &image.functions)?,
+            code: Vec::from_slice(alloc, &image.code)?,
+            memory,
+            function: image.entry,
+            at: entry.first,
+            registers,
+            slots: [0; 64],
+            stopped: open_stop(&entry),
+        })
+    }
+
     /// One instruction. A stopped machine answers its stop again and touches nothing.
     pub fn step<I: Source, O: Sink, E: Sink>(
         &mut self,
@@ -254,18 +278,4 @@ fn fill(memory: &mut [u8], address: u64, byte: u8, count: u64)
     let start = address as usize;
     let end = start + count as usize;
     memory[start..end].fill(byte);
-}
-
-impl Machine {
-    /// Opens a machine on the image. All memory of a run is taken here.
-    pub fn open(alloc: Global, image: &Image, args: &Words) -> Result<Machine, NoMemory>
-        requires image { IsImage (plain_image image.now) }
-        requires arguments { ArgumentsFit args.now }
-        ensures program { IfOk result (λ machine. machine.program ≡ program_of (plain_image image.now)) }
-        ensures core { IfOk result (λ machine. machine.core ≡ first_core (plain_image image.now) args.now) }
-        ensures running { IfOk result (λ machine. machine.core.stopped ≡ None → machine.stop ≡ None) }
-    {
-        let _ = (alloc, image.entry, args.len());
-        Err(NoMemory)
-    }
 }
