@@ -1,19 +1,19 @@
 -- The one answer that an outcome is, by the bytes under FILE.
-use Rattle.std.proofs.Common.{◌≡◌, ◌≢◌, ℕ, ◌+◌, ◌^◌, ◌≤◌, ◌<◌, List, [], ◌∷◌, ◌++◌, length, Option, None, Some, refl, sym, ◌∙◌, ap, subst, inl, inr, ◌⊎◌, arith, decimal, codes, length-append, slice_index_or, lit≤}
+use Rattle.std.proofs.Common.{◌≡◌, ◌≢◌, ℕ, ◌+◌, ◌≤◌, ◌<◌, List, [], ◌∷◌, length, Option, Some, refl, sym, ◌∙◌, ap, subst, inl, inr, arith, decimal, length-append, slice_index_or, lit≤}
 use Rattle.std.proofs.lemmas.Fmt.{length-decimal-le}
-use Rattle.fc_base.specs.Outside.{Files, Rose}
+use Rattle.fc_base.specs.Outside.{Files}
 use Rattle.fc_base.specs.Runs.{Ended}
 use Rattle.fc_base.specs.declared.levels.End.{End}
 use Rattle.byte_machine.specs.State.{Core, Program}
 use Rattle.byte_machine.specs.Opening.{program_of, first_core}
-use Rattle.byte_machine.specs.Machines.{Loaded, Advances}
+use Rattle.byte_machine.specs.Machines.{Loaded}
 use Rattle.fort_driver.specs.declared.forms.Form.{Form}
 use Rattle.fort_driver.specs.declared.outcomes.Outcome.{Outcome}
 use Rattle.fort_driver.specs.declared.outcomes.Outcome.TheVariants as outcomes
-use Rattle.fort_driver.specs.Commands.{Means, run_of, default_steps, IsUsage}
+use Rattle.fort_driver.specs.Commands.{default_steps}
 use Rattle.fort_driver.specs.Compiled.{form_image}
 use Rattle.fort_driver.specs.Forms.{IsForm, IsTextOf, form_text, form_runs}
-use Rattle.fort_driver.specs.Fort.{Holds, IsRun, HasRun, Runs, Answers, NoneFailed, StoodStill, IsAnswer, IsNoForm, longest_source, not_this_form}
+use Rattle.fort_driver.specs.Fort.{Holds, IsRun, HasRun, Runs, Answers, StoodStill, IsNoForm, longest_source}
 use Rattle.fort_driver.specs.Preparing.{IsReady, NotReady}
 use Rattle.fort_driver.proofs.Agreement.{ended_by, shown_then}
 
@@ -132,7 +132,7 @@ ready_answers outcome file image_name source files files' f machine i i' o o' e 
     let program = ready.program ∙ ap program_of ready.compiled in
     let core = ready.core ∙ ap (λ image. first_core image []) ready.compiled in
     let form_run = subst (λ k. Runs outcome default_steps (program_of (form_image form)) k i i' o o' e e') core
-        (subst (λ p. Runs outcome default_steps p machine.core i i' o o' e e') program runs) in
+    (subst (λ p. Runs outcome default_steps p machine.core i i' o o' e e') program runs) in
     record {
       too_long = λ long. let short = form_length source form ok text in absurd (omega arith);
       refused = λ short no_form. absurd (no_form form ok text);

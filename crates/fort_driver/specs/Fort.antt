@@ -169,7 +169,7 @@ pub record Answers (result : Outcome) (source : List ℕ) (none_failed : Type 0)
   pub refused : length source ≤ longest_source → IsNoForm source → IsAnswer result (outcomes.Refused not_this_form)
   pub accepted : (form : Form) → IsForm form → IsTextOf source form → none_failed → HasRun result ⊎ (result ≡ outcomes.NoMemory)
   pub ended : (form : Form) (end : End) → IsForm form → IsTextOf source form → (form_runs form 0).1 ≡ Ended end → none_failed
-    → IsAnswer result (outcomes.Ran end)
+      → IsAnswer result (outcomes.Ran end)
 
 -- no object failed but in a fetch of FILE: the counts of a keep of IMAGE, of input, out and err stood still
 pub record NoneFailed (keeps keeps' inputs inputs' outs outs' errs errs' : ℕ) : Type 0 where

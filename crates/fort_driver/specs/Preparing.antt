@@ -1,5 +1,5 @@
 -- How a machine is made ready for the source of a name.
-use Rattle.std.specs.Prelude.{◌≡◌, ◌≢◌, ℕ, ◌≤◌, ◌<◌, List, [], length, Option, None, Some, Result, Ok, Err, ⊤, ◌⊎◌}
+use Rattle.std.specs.Prelude.{◌≡◌, ◌≢◌, ℕ, ◌≤◌, ◌<◌, List, [], length, Option, None, Result, Err, ◌⊎◌}
 use Rattle.fc_base.specs.Outside.{Files, KeepsOthers, Rose}
 use Rattle.byte_machine.specs.Images.{PlainImage}
 use Rattle.byte_machine.specs.Opening.{first_core, program_of}
@@ -9,7 +9,7 @@ use Rattle.fort_driver.specs.declared.outcomes.Outcome.{Outcome}
 use Rattle.fort_driver.specs.declared.outcomes.Outcome.TheVariants as outcomes
 use Rattle.fort_driver.specs.Compiled.{form_image}
 use Rattle.fort_driver.specs.Forms.{IsForm, IsTextOf}
-use Rattle.fort_driver.specs.Fort.{Holds, KeepsImage, longest_source, not_this_form, IsNoForm, StoodStill}
+use Rattle.fort_driver.specs.Fort.{Holds, KeepsImage, longest_source, not_this_form, IsNoForm}
 
 -- the machine stands at the first instruction of an image that was kept
 pub record IsReady (file image_name : List ℕ) (files files' : Option Files) (machine : Loaded) : Type 0 where

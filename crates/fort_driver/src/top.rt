@@ -152,7 +152,7 @@ pub fn fort<S: Store, I: Source, O: Sink, E: Sink>(
         S.files store.old ≡ Some files → files file ≡ Some source →
         StoodStill (S.fetch_count store.old file) (S.fetch_count store.new file) →
         Answers result source (NoneFailed (S.keep_count store.old image_name) (S.keep_count store.new image_name)
-            (I.count input.old) (I.count input.new) (O.count out.old) (O.count out.new) (E.count err.old) (E.count err.new)) }
+        (I.count input.old) (I.count input.new) (O.count out.old) (O.count out.new) (E.count err.old) (E.count err.new)) }
 {
     let Some((file, image_name)) = run_names(words) else {
         return Outcome::Usage;

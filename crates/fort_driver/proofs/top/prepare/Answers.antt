@@ -1,8 +1,11 @@
 -- Where the store doesn't fail, its file is the form's image, and the machine stands at its entry.
-use Rattle.std.proofs.Common.{◌≡◌, refl, sym, ◌∙◌, ap, subst, inl, inr, []}
-use Rattle.byte_machine.specs.Opening.{program_of, first_core}
+use Rattle.std.proofs.Common.{◌≡◌, refl, sym, ◌∙◌, ap, subst, inr, []}
+use Rattle.byte_machine.specs.Opening.{program_of, first_core, first_end}
+use Rattle.byte_machine.specs.Images.{function_at}
+use Rattle.byte_machine.specs.declared.machine.Stop.TheVariants as stops
+use Rattle.std.specs.Option.{option_map}
 use Rattle.fort_driver.specs.Compiled.{form_image}
-use Rattle.fort_driver.specs.Forms.{IsForm, IsTextOf}
+use Rattle.fort_driver.specs.Forms.{IsTextOf}
 use Rattle.fort_driver.proofs.Agreement.{let_in}
 use Rattle.fort_driver.proofs.Kept.{long_source, kept_image}
 use Rattle.fort_driver.proofs.top.prepare.Goals as goal
@@ -25,7 +28,7 @@ returns-in-Ok-open-clause-ready g c =
       only = λ other ok text. c.in-Some.ensures.only other ok (subst (λ s. IsTextOf s other) (sym c.deref.ensures.value) text);
       program = c.in-Ok-open.ensures.program ∙ ap program_of c.in-Ok-build.ensures.image;
       core = core;
-      no_stop = c.in-Ok-open.ensures.running (ap (λ k. k.stopped) core ∙ let_in form c.in-Some.ensures.form.0);
+      no_stop = c.in-Ok-open.ensures.stop ∙ ap (λ i. option_map stops.Ended (first_end (function_at i.functions i.entry))) c.in-Ok-build.ensures.image ∙ ap (option_map stops.Ended) (let_in form c.in-Some.ensures.form.0);
     }
 
 pub returns-clause-not_ready : goal.returns-clause-not_ready
