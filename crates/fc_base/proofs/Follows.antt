@@ -1,8 +1,6 @@
 -- Following composes.
-use Rattle.std.proofs.Common.{◌≡◌, ℕ, ◌≤◌, List, ◌++◌, refl, sym, ◌∙◌, ap, append_assoc, arith, rules}
-use Rattle.fc_base.specs.Runs.{Shown, Standing, Ended, Undefined, Going, Runs, Begins, Follows, IsMonotone, FollowsComposes}
-use Rattle.fc_base.specs.declared.undefined.UndefKind.{UndefKind}
-use Rattle.fc_base.specs.declared.refusals.Place.{Place}
+use Rattle.std.proofs.Common.{◌≡◌, ℕ, ◌≤◌, ◌++◌, refl, sym, ◌∙◌, ap, append_assoc, arith}
+use Rattle.fc_base.specs.Runs.{Shown, Standing, Ended, Undefined, Going, Runs, Begins, Follows, FollowsComposes}
 
 -- the middle run shows at least the first one's list, however it stands, and so does the last one
 past : (g : ℕ → ℕ) (b c : Runs) → Follows g c b → (m : ℕ) (list : Shown) → Begins (b m).0 list
@@ -23,15 +21,15 @@ past g b c follows m list begins seen (Undefined kind place) is =
 pub follows_composes_lem : FollowsComposes
 follows_composes_lem f g grows a b c first second = record {
   ends = λ n list end is.
-    let middle = first.ends n list end is in
-    let last = second.ends middle.0 list end middle.2 in
-    let within : last.0 ≤ g (f n) = let step : g middle.0 ≤ g (f n) = grows middle.0 (f n) middle.1 in omega arith in
-    (last.0, within, last.2);
+      let middle = first.ends n list end is in
+      let last = second.ends middle.0 list end middle.2 in
+      let within : last.0 ≤ g (f n) = let step : g middle.0 ≤ g (f n) = grows middle.0 (f n) middle.1 in omega arith in
+      (last.0, within, last.2);
   goes_on = λ n list is.
-    let middle = first.goes_on n list is in
-    let last = second.goes_on middle.0 list middle.2 in
-    (last.0, omega arith, last.2);
+      let middle = first.goes_on n list is in
+      let last = second.goes_on middle.0 list middle.2 in
+      (last.0, omega arith, last.2);
   until = λ n list kind place is.
-    let middle = first.until n list kind place is in
-    past g b c second middle.0 list middle.1 (b middle.0).0 (b middle.0).1 refl;
+      let middle = first.until n list kind place is in
+      past g b c second middle.0 list middle.1 (b middle.0).0 (b middle.0).1 refl;
 }

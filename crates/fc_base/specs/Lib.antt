@@ -1,4 +1,7 @@
+pub mod Counts
 pub mod Events
+pub mod MemoryStore
+pub mod MemoryStreams
 pub mod Names
 pub mod Outside
 pub mod Runs

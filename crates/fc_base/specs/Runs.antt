@@ -1,6 +1,6 @@
 -- What a run shows and how it stands at a bound on its steps: the words of the plain meaning, of modules and of
 -- the machine. This project's own.
-use Rattle.std.specs.Prelude.{◌≡◌, ℕ, ◌≤◌, ◌==◌, List, [], ◌∷◌, ◌++◌, map, filter, Option}
+use Rattle.std.specs.Prelude.{◌≡◌, ℕ, ◌≤◌, ◌==◌, List, ◌++◌, map, filter, Option}
 use Rattle.fc_base.specs.Outside.{IsFront, Takes, Appends}
 use Rattle.fc_base.specs.declared.levels.End.{End}
 use Rattle.fc_base.specs.declared.undefined.UndefKind.{UndefKind}

@@ -1,5 +1,5 @@
 -- The integers of each width, as 64-bit numbers (C11 6.3.1.3).
-use Rattle.std.specs.Prelude.{ℕ, ◌+◌, ◌-◌, ◌*◌, ◌%◌, ◌^◌, Bool, ◌&&◌, nat_le, if◌then◌else◌}
+use Rattle.std.specs.Prelude.{ℕ, ◌+◌, ◌-◌, ◌%◌, ◌^◌, Bool, ◌&&◌, nat_le, if◌then◌else◌}
 use Rattle.fc_base.specs.declared.levels.Width.{Width}
 use Rattle.fc_base.specs.declared.levels.Width.TheVariants.{W1, W2, W4, W8}
 

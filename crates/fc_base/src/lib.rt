@@ -3,6 +3,8 @@
 
 mod faults;
 mod levels;
+mod memory_store;
+mod memory_streams;
 mod outside;
 mod refusals;
 mod rules;
@@ -12,6 +14,8 @@ mod undefined;
 
 pub use faults::{Failed, FetchFault, KeepFault, NoMemory};
 pub use levels::{End, Level, Mode, Width, extend};
+pub use memory_store::MemStore;
+pub use memory_streams::{MemSink, MemSource};
 pub use outside::{Sink, Source, Store};
 pub use refusals::{Fault, Place, Refusal};
 pub use rules::Rule;

@@ -1,0 +1,69 @@
+-- The sixteen bytes of each instruction. This project's own.
+use Rattle.std.specs.Prelude.{ℕ, ◌/◌, ◌%◌, ◌^◌, List, ◌∷◌, ◌++◌, true, false}
+use Rattle.std.specs.Int.{to_le_bytes, w32}
+use Rattle.fc_base.specs.Widths.{width_bytes}
+use Rattle.bm_isa.specs.declared.instructions.BinaryOp.{BinaryOp}
+use Rattle.bm_isa.specs.declared.instructions.BinaryOp.TheVariants as binary
+use Rattle.bm_isa.specs.declared.instructions.DivideOp.{DivideOp}
+use Rattle.bm_isa.specs.declared.instructions.DivideOp.TheVariants as divide
+use Rattle.bm_isa.specs.declared.instructions.Instr.{Instr}
+use Rattle.bm_isa.specs.declared.instructions.Instr.TheVariants as instr
+
+abbrev pub binary_number : BinaryOp → ℕ
+binary_number binary.Add = 3
+binary_number binary.Sub = 4
+binary_number binary.Mul = 5
+binary_number binary.And = 6
+binary_number binary.Or = 7
+binary_number binary.Xor = 8
+binary_number binary.ShiftLeft = 9
+binary_number binary.ShiftRightUnsigned = 10
+binary_number binary.ShiftRightSigned = 11
+binary_number binary.MulHigh = 12
+binary_number binary.DivUnsigned = 13
+binary_number binary.RemUnsigned = 14
+binary_number binary.Equal = 19
+binary_number binary.NotEqual = 20
+binary_number binary.LessUnsigned = 21
+binary_number binary.AtMostUnsigned = 22
+binary_number binary.LessSigned = 23
+binary_number binary.AtMostSigned = 24
+binary_number binary.MinSigned = 25
+binary_number binary.MaxSigned = 26
+binary_number binary.MinUnsigned = 27
+
+abbrev pub divide_number : DivideOp → ℕ
+divide_number divide.Div = 15
+divide_number divide.Rem = 16
+
+-- an instruction's number, its width, two zero bytes, and its three words, each little-endian
+abbrev pub wide : ℕ → ℕ → ℕ → ℕ → ℕ → List ℕ
+wide number width a b c = number ∷ width ∷ 0 ∷ 0 ∷ (to_le_bytes w32 a ++ to_le_bytes w32 b ++ to_le_bytes w32 c)
+
+-- the same without a width
+abbrev pub plain : ℕ → ℕ → ℕ → ℕ → List ℕ
+plain number a b c = wide number 0 a b c
+
+-- the number of each instruction, its width, and where its operands stand. A constant has its low half in b and its
+-- high half in c. A field that an instruction doesn't name is 0
+abbrev pub instruction_bytes : Instr → List ℕ
+instruction_bytes (instr.Const to number) = plain 0 to (number % 2 ^ 32) (number / 2 ^ 32)
+instruction_bytes (instr.Move to from) = plain 1 to from 0
+instruction_bytes (instr.Slot to offset) = plain 2 to offset 0
+instruction_bytes (instr.Binary op to left right) = plain (binary_number op) to left right
+instruction_bytes (instr.Divide op width to left right) = wide (divide_number op) (width_bytes width) to left right
+instruction_bytes (instr.Extend true width to from) = wide 17 (width_bytes width) to from 0
+instruction_bytes (instr.Extend false width to from) = wide 18 (width_bytes width) to from 0
+instruction_bytes (instr.Select to test from) = plain 28 to test from
+instruction_bytes (instr.Load false width to at) = wide 29 (width_bytes width) to at 0
+instruction_bytes (instr.Load true width to at) = wide 30 (width_bytes width) to at 0
+instruction_bytes (instr.Store width from at) = wide 31 (width_bytes width) from at 0
+instruction_bytes (instr.Copy to_at from_at count) = plain 32 to_at from_at count
+instruction_bytes (instr.Zero at count) = plain 33 at 0 count
+instruction_bytes (instr.Jump target) = plain 34 0 target 0
+instruction_bytes (instr.JumpIfZero test target) = plain 35 test target 0
+instruction_bytes (instr.JumpIfNotZero test target) = plain 36 test target 0
+instruction_bytes (instr.Argument from slot) = plain 37 from slot 0
+instruction_bytes (instr.Call to function) = plain 38 to function 0
+instruction_bytes (instr.Return from) = plain 39 from 0 0
+instruction_bytes (instr.Host to call count) = plain 40 to call count

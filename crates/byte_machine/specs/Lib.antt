@@ -1,0 +1,6 @@
+pub mod Images
+pub mod Machines
+pub mod Opening
+pub mod Performing
+pub mod State
+pub mod View

@@ -1,0 +1,85 @@
+-- The first state of a machine. This project's own.
+use Rattle.std.specs.Prelude.{ℕ, ◌+◌, ◌-◌, ◌*◌, ◌/◌, ◌≤◌, ◌==◌, List, [], ◌∷◌, ◌++◌, length, replicate, ◌||◌, nat_lt, cond, Option, None, Some, codes, sum_by}
+use Rattle.std.specs.List.{flat_map}
+use Rattle.std.specs.Int.{to_le_bytes, w64}
+use Rattle.fc_base.specs.Runs.{Runs}
+use Rattle.fc_base.specs.declared.levels.End.TheVariants as ends
+use Rattle.byte_machine.specs.declared.images.FnRec.{FnRec}
+use Rattle.byte_machine.specs.declared.machine.Stop.{Stop}
+use Rattle.byte_machine.specs.declared.machine.Stop.TheVariants as stops
+use Rattle.byte_machine.specs.Images.{Plain, function_at}
+use Rattle.byte_machine.specs.State.{memory_size, first_valid, data_start, stack_start, stack_frames, stack_weights, whole_heap, Core, State, put, after, standing_of}
+
+-- each argument counts its length and 32 more; the sum is bounded
+abbrev pub ArgumentsFit : List (List ℕ) → Type 0
+ArgumentsFit args = sum_by (λ word. length word + 32) args ≤ 524288
+
+-- a length rounded up to a multiple of 16
+abbrev pub rounded : ℕ → ℕ
+rounded n = (n + 15) / 16 * 16
+
+-- the strings that argv points to: the program's name and the arguments
+abbrev pub argument_words : List (List ℕ) → List (List ℕ)
+argument_words args = codes "prog" ∷ args
+
+-- how much room a string takes with its NUL
+abbrev pub string_room : List ℕ → ℕ
+string_room word = rounded (length word + 2)
+
+-- a string, its NUL, and zero bytes up to its room
+unfoldable pub string_block : List ℕ → List ℕ
+string_block word = word ++ replicate (string_room word - length word) 0
+
+-- the addresses of strings that stand one after the other from the first address on
+unfoldable pub addresses : ℕ → List (List ℕ) → List ℕ
+addresses at [] = []
+addresses at (word ∷ words) = at ∷ addresses (at + string_room word) words
+
+-- the address of argv, behind the strings
+abbrev pub argv_address : List (List ℕ) → ℕ
+argv_address args = first_valid + sum_by string_room (argument_words args)
+
+-- the strings in order, then their addresses, then a null pointer
+unfoldable pub argument_section : List (List ℕ) → List ℕ
+argument_section args =
+    flat_map string_block (argument_words args)
+    ++ (flat_map (to_le_bytes w64) (addresses first_valid (argument_words args)) ++ to_le_bytes w64 0)
+
+-- all bytes are zero but for the arguments and the data
+unfoldable pub first_memory : Plain → List (List ℕ) → List ℕ
+first_memory image args =
+    put data_start image.bytes (put first_valid (argument_section args) (replicate memory_size 0))
+
+-- the entry's registers: argc and argv where it has two parameters, and zeros
+abbrev pub first_registers : FnRec → List (List ℕ) → List ℕ
+first_registers f args =
+    cond (f.params == 2) (length (argument_words args) ∷ argv_address args ∷ replicate (f.regs - 2) 0) (replicate f.regs 0)
+
+-- an entry whose frame or weight alone passes the stack's numbers stops the machine before its first instruction
+abbrev pub first_stop : FnRec → Option Stop
+first_stop f = cond (nat_lt stack_frames f.frame || nat_lt stack_weights f.weight) (Some (stops.Ended ends.StackFull)) None
+
+-- the machine at the first instruction of the entry
+abbrev pub core_at : Plain → List (List ℕ) → FnRec → Core
+core_at image args f = record {
+  memory = first_memory image args;
+  running = record { function = image.entry; at = f.first; base = stack_start; registers = first_registers f args };
+  callers = [];
+  slots = replicate 64 0;
+  heap = whole_heap;
+  stopped = first_stop f;
+}
+
+-- the machine as it is opened
+abbrev pub first_core : Plain → List (List ℕ) → Core
+first_core image args = core_at image args (function_at image.functions image.entry)
+
+-- a machine with these bytes before it, that has shown nothing
+abbrev pub begun : Core → List ℕ → State
+begun core input = record { core = core; world = record { input = input; shown = [] } }
+
+-- the machine's run: what is shown after each number of instructions, and how it stands
+abbrev pub machine_runs : Plain → List (List ℕ) → List ℕ → Runs
+machine_runs image args input m =
+    let s = after image.code m (begun (first_core image args) input) in
+    (s.world.shown, standing_of s.core.stopped)

@@ -1,0 +1,29 @@
+-- How a machine is seen, and what its fields keep.
+use Rattle.std.specs.Prelude.{◌≡◌, ◌≤◌, ◌<◌, [], length, vec_len}
+use Rattle.byte_machine.specs.Images.{function_at, end_of, IsCode}
+use Rattle.byte_machine.specs.State.{memory_size, stack_start, whole_heap, Core}
+use Rattle.byte_machine.specs.Machines.{Loaded}
+use Rattle.byte_machine.specs.declared.machine.Machine.TheInside.{Inside}
+
+abbrev pub core_of : Inside → Core
+core_of m = record {
+  memory = m.memory.items;
+  running = record { function = m.function; at = m.at; base = stack_start; registers = m.registers.items };
+  callers = [];
+  slots = m.slots;
+  heap = whole_heap;
+  stopped = m.stopped;
+}
+
+abbrev pub loaded_of : Inside → Loaded
+loaded_of m = record { functions = m.functions.items; code = m.code.items; core = core_of m }
+
+-- the running call stands in its function, with the registers that its function has
+pub record IsRunnable (m : Inside) : Type 0 where
+  pub memory : vec_len m.memory ≡ memory_size
+  pub code : IsCode m.functions.items m.code.items
+  pub short : length m.code.items ≤ 4194304
+  pub function : m.function < length m.functions.items
+  pub behind : (function_at m.functions.items m.function).first ≤ m.at
+  pub before : m.at < end_of m.functions.items m.code.items m.function
+  pub registers : vec_len m.registers ≡ (function_at m.functions.items m.function).regs

@@ -1,0 +1,1 @@
+//! Opening a machine: all memory of a run is taken here.
