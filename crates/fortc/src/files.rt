@@ -45,7 +45,10 @@ fn write_file<R: Files>(files: &R, name: &str, bytes: &[u8]) -> Result<(), Faile
 }
 
 impl<R: Files> FileStore<R> {
-    pub fn new(alloc: Global, files: R) -> FileStore<R> {
+    pub fn new(alloc: Global, files: R) -> FileStore<R>
+        ensures no_fetches { result.failed_fetches ≡ [] }
+        ensures no_keeps { result.failed_keeps ≡ [] }
+    {
         FileStore {
             files,
             failed_fetches: Failures::new(alloc),

@@ -29,7 +29,10 @@ pub struct StdSource<R> {
 }
 
 impl<R> StdSource<R> {
-    pub fn new(reader: R) -> StdSource<R> {
+    pub fn new(reader: R) -> StdSource<R>
+        ensures reader { result.reader ≡ reader }
+        ensures faults { result.faults ≡ 0 }
+    {
         StdSource { reader, faults: 0 }
     }
 }
@@ -59,7 +62,10 @@ pub struct StdSink<W> {
 }
 
 impl<W> StdSink<W> {
-    pub fn new(writer: W) -> StdSink<W> {
+    pub fn new(writer: W) -> StdSink<W>
+        ensures writer { result.writer ≡ writer }
+        ensures faults { result.faults ≡ 0 }
+    {
         StdSink { writer, faults: 0 }
     }
 }
