@@ -37,33 +37,33 @@ divide_number divide.Div = 15
 divide_number divide.Rem = 16
 
 -- an instruction's number, its width, two zero bytes, and its three words, each little-endian
-abbrev pub wide : ℕ → ℕ → ℕ → ℕ → ℕ → List ℕ
-wide number width a b c = number ∷ width ∷ 0 ∷ 0 ∷ (to_le_bytes w32 a ++ to_le_bytes w32 b ++ to_le_bytes w32 c)
+abbrev pub with_width : ℕ → ℕ → ℕ → ℕ → ℕ → List ℕ
+with_width number width a b c = number ∷ width ∷ 0 ∷ 0 ∷ (to_le_bytes w32 a ++ to_le_bytes w32 b ++ to_le_bytes w32 c)
 
 -- the same without a width
-abbrev pub plain : ℕ → ℕ → ℕ → ℕ → List ℕ
-plain number a b c = wide number 0 a b c
+abbrev pub without_width : ℕ → ℕ → ℕ → ℕ → List ℕ
+without_width number a b c = with_width number 0 a b c
 
 -- the number of each instruction, its width, and where its operands stand. A constant has its low half in b and its
 -- high half in c. A field that an instruction doesn't name is 0
 abbrev pub instruction_bytes : Instr → List ℕ
-instruction_bytes (instr.Const to number) = plain 0 to (number % 2 ^ 32) (number / 2 ^ 32)
-instruction_bytes (instr.Move to from) = plain 1 to from 0
-instruction_bytes (instr.Slot to offset) = plain 2 to offset 0
-instruction_bytes (instr.Binary op to left right) = plain (binary_number op) to left right
-instruction_bytes (instr.Divide op width to left right) = wide (divide_number op) (width_bytes width) to left right
-instruction_bytes (instr.Extend true width to from) = wide 17 (width_bytes width) to from 0
-instruction_bytes (instr.Extend false width to from) = wide 18 (width_bytes width) to from 0
-instruction_bytes (instr.Select to test from) = plain 28 to test from
-instruction_bytes (instr.Load false width to at) = wide 29 (width_bytes width) to at 0
-instruction_bytes (instr.Load true width to at) = wide 30 (width_bytes width) to at 0
-instruction_bytes (instr.Store width from at) = wide 31 (width_bytes width) from at 0
-instruction_bytes (instr.Copy to_at from_at count) = plain 32 to_at from_at count
-instruction_bytes (instr.Zero at count) = plain 33 at 0 count
-instruction_bytes (instr.Jump target) = plain 34 0 target 0
-instruction_bytes (instr.JumpIfZero test target) = plain 35 test target 0
-instruction_bytes (instr.JumpIfNotZero test target) = plain 36 test target 0
-instruction_bytes (instr.Argument from slot) = plain 37 from slot 0
-instruction_bytes (instr.Call to function) = plain 38 to function 0
-instruction_bytes (instr.Return from) = plain 39 from 0 0
-instruction_bytes (instr.Host to call count) = plain 40 to call count
+instruction_bytes (instr.Const to number) = without_width 0 to (number % 2 ^ 32) (number / 2 ^ 32)
+instruction_bytes (instr.Move to from) = without_width 1 to from 0
+instruction_bytes (instr.Slot to offset) = without_width 2 to offset 0
+instruction_bytes (instr.Binary op to left right) = without_width (binary_number op) to left right
+instruction_bytes (instr.Divide op width to left right) = with_width (divide_number op) (width_bytes width) to left right
+instruction_bytes (instr.Extend true width to from) = with_width 17 (width_bytes width) to from 0
+instruction_bytes (instr.Extend false width to from) = with_width 18 (width_bytes width) to from 0
+instruction_bytes (instr.Select to test from) = without_width 28 to test from
+instruction_bytes (instr.Load false width to at) = with_width 29 (width_bytes width) to at 0
+instruction_bytes (instr.Load true width to at) = with_width 30 (width_bytes width) to at 0
+instruction_bytes (instr.Store width from at) = with_width 31 (width_bytes width) from at 0
+instruction_bytes (instr.Copy to_at from_at count) = without_width 32 to_at from_at count
+instruction_bytes (instr.Zero at count) = without_width 33 at 0 count
+instruction_bytes (instr.Jump target) = without_width 34 0 target 0
+instruction_bytes (instr.JumpIfZero test target) = without_width 35 test target 0
+instruction_bytes (instr.JumpIfNotZero test target) = without_width 36 test target 0
+instruction_bytes (instr.Argument from slot) = without_width 37 from slot 0
+instruction_bytes (instr.Call to function) = without_width 38 to function 0
+instruction_bytes (instr.Return from) = without_width 39 from 0 0
+instruction_bytes (instr.Host to call count) = without_width 40 to call count

@@ -1,7 +1,7 @@
 //! The sixteen bytes of an instruction.
 
 ghost use Rattle.std.specs.Prelude.{◌≡◌};
-ghost use Rattle.bm_isa.specs.Encoding.{binary_number, divide_number, plain, wide, instruction_bytes};
+ghost use Rattle.bm_isa.specs.Encoding.{binary_number, divide_number, without_width, with_width, instruction_bytes};
 ghost use Rattle.fc_base.specs.Widths.{width_bytes};
 
 use crate::instructions::{BinaryOp, DivideOp, Instr};
@@ -56,8 +56,8 @@ fn divide_byte(op: DivideOp) -> u8
 }
 
 /// An instruction of one number, with a width and three words.
-fn wide(number: u8, width: u8, a: u32, b: u32, c: u32) -> [u8; 16]
-    ensures { result ≡ wide number width a b c }
+fn with_width(number: u8, width: u8, a: u32, b: u32, c: u32) -> [u8; 16]
+    ensures { result ≡ with_width number width a b c }
 {
     let [a0, a1, a2, a3] = a.to_le_bytes();
     let [b0, b1, b2, b3] = b.to_le_bytes();
@@ -68,10 +68,10 @@ fn wide(number: u8, width: u8, a: u32, b: u32, c: u32) -> [u8; 16]
 }
 
 /// The same with no width.
-fn plain(number: u8, a: u32, b: u32, c: u32) -> [u8; 16]
-    ensures { result ≡ plain number a b c }
+fn without_width(number: u8, a: u32, b: u32, c: u32) -> [u8; 16]
+    ensures { result ≡ without_width number a b c }
 {
-    wide(number, 0, a, b, c)
+    with_width(number, 0, a, b, c)
 }
 
 /// The instruction's sixteen bytes: number, width, two zero bytes, and three little-endian words.
@@ -82,49 +82,49 @@ pub fn encode(i: &Instr) -> [u8; 16]
         Instr::Const { to, number } => {
             let low = (number % 0x1_0000_0000) as u32;
             let high = (number / 0x1_0000_0000) as u32;
-            plain(0, to, low, high)
+            without_width(0, to, low, high)
         }
-        Instr::Move { to, from } => plain(1, to, from, 0),
-        Instr::Slot { to, offset } => plain(2, to, offset, 0),
+        Instr::Move { to, from } => without_width(1, to, from, 0),
+        Instr::Slot { to, offset } => without_width(2, to, offset, 0),
         Instr::Binary {
             op,
             to,
             left,
             right,
-        } => plain(binary_byte(op), to, left, right),
+        } => without_width(binary_byte(op), to, left, right),
         Instr::Divide {
             op,
             width,
             to,
             left,
             right,
-        } => wide(divide_byte(op), width_byte(width), to, left, right),
+        } => with_width(divide_byte(op), width_byte(width), to, left, right),
         Instr::Extend {
             signed,
             width,
             to,
             from,
-        } => wide(if signed { 17 } else { 18 }, width_byte(width), to, from, 0),
-        Instr::Select { to, test, from } => plain(28, to, test, from),
+        } => with_width(if signed { 17 } else { 18 }, width_byte(width), to, from, 0),
+        Instr::Select { to, test, from } => without_width(28, to, test, from),
         Instr::Load {
             signed,
             width,
             to,
             at,
-        } => wide(if signed { 30 } else { 29 }, width_byte(width), to, at, 0),
-        Instr::Store { width, from, at } => wide(31, width_byte(width), from, at, 0),
+        } => with_width(if signed { 30 } else { 29 }, width_byte(width), to, at, 0),
+        Instr::Store { width, from, at } => with_width(31, width_byte(width), from, at, 0),
         Instr::Copy {
             to_at,
             from_at,
             count,
-        } => plain(32, to_at, from_at, count),
-        Instr::Zero { at, count } => plain(33, at, 0, count),
-        Instr::Jump { target } => plain(34, 0, target, 0),
-        Instr::JumpIfZero { test, target } => plain(35, test, target, 0),
-        Instr::JumpIfNotZero { test, target } => plain(36, test, target, 0),
-        Instr::Argument { from, slot } => plain(37, from, slot, 0),
-        Instr::Call { to, function } => plain(38, to, function, 0),
-        Instr::Return { from } => plain(39, from, 0, 0),
-        Instr::Host { to, call, count } => plain(40, to, call, count),
+        } => without_width(32, to_at, from_at, count),
+        Instr::Zero { at, count } => without_width(33, at, 0, count),
+        Instr::Jump { target } => without_width(34, 0, target, 0),
+        Instr::JumpIfZero { test, target } => without_width(35, test, target, 0),
+        Instr::JumpIfNotZero { test, target } => without_width(36, test, target, 0),
+        Instr::Argument { from, slot } => without_width(37, from, slot, 0),
+        Instr::Call { to, function } => without_width(38, to, function, 0),
+        Instr::Return { from } => without_width(39, from, 0, 0),
+        Instr::Host { to, call, count } => without_width(40, to, call, count),
     }
 }

@@ -1,8 +1,9 @@
-//! The instructions. An operand that is a register is its number in the running call's window.
+//! The instructions. An operand is the number of a register in the running call's window, below the function's count
+//! of registers, or a plain number where that is said.
 
 use fc_base::Width;
 
-/// An operation on two registers, modulo 2^64. Shifts take their count modulo 64; comparisons give 1 or 0; an
+/// An operation on two registers, modulo 2^64. `MulHigh` gives the high half of the unsigned product. Shifts take their count modulo 64; comparisons give 1 or 0; an
 /// unsigned division ends the run where the divisor is 0.
 #[derive(Clone, Copy, Debug, PartialEq, Eq)]
 pub enum BinaryOp {
@@ -94,13 +95,13 @@ pub enum Instr {
         from: u32,
         at: u32,
     },
-    /// That many bytes from the one address to the other, as if through a copy.
+    /// That many bytes, by the number itself, from the one address to the other, as if through a copy.
     Copy {
         to_at: u32,
         from_at: u32,
         count: u32,
     },
-    /// That many zero bytes at the address.
+    /// That many zero bytes, by the number itself, at the address.
     Zero {
         at: u32,
         count: u32,

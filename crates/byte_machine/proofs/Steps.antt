@@ -8,14 +8,13 @@ use Rattle.bm_isa.specs.declared.instructions.Instr.{Instr}
 use Rattle.bm_isa.specs.declared.instructions.Instr.TheVariants as instr
 use Rattle.fc_base.specs.Events.{overflow_line}
 use Rattle.fc_base.specs.declared.levels.End.TheVariants as ends
-use Rattle.byte_machine.specs.declared.machine.Stop.TheVariants as stops
 use Rattle.byte_machine.specs.declared.images.FnRec.{FnRec}
 use Rattle.byte_machine.specs.declared.machine.Machine.TheInside.{Inside}
 use Rattle.byte_machine.specs.Images.{function_at, end_of, fits, ends_function, memset_chk, IsCode}
-use Rattle.byte_machine.specs.State.{Core, State, perform, performed, next, slot, put, are_valid, stopping, giving, with_core, overflowing}
+use Rattle.byte_machine.specs.State.{Core, State, Program, perform, performed, next, slot_value, put, are_valid, ending, giving, with_core, overflowing}
 use Rattle.byte_machine.specs.Opening.{begun}
-use Rattle.byte_machine.specs.Performing.{having_written, Wrote, Failed}
-use Rattle.byte_machine.specs.View.{core_of, IsRunnable}
+use Rattle.byte_machine.specs.Performing.{having_written, Wrote, FailedWriting}
+use Rattle.byte_machine.specs.View.{core_of, program_in, end_of_stop, IsRunnable}
 
 -- a function's code ends within the code
 end_within : (functions : List FnRec) (code : List Instr) (k : ℕ) → IsCode functions code → k < length functions → end_of functions code k ≤ length code
@@ -32,9 +31,9 @@ pub at_is : (m : Inside) (i : Instr) → IsRunnable m → i ≡ slice_index_or m
 at_is m i is read = slice_get_read m.code.items _ m.at i refl (at_code m is) read
 
 -- it stands rightly there
-pub fits_at : (m : Inside) (i : Instr) → IsRunnable m → i ≡ slice_index_or m.code.items m.at i → IsTrue (fits (function_at m.functions.items m.function) i)
+pub fits_at : (m : Inside) (i : Instr) → IsRunnable m → i ≡ slice_index_or m.code.items m.at i → IsTrue (fits m.functions.items m.code.items m.function i)
 fits_at m i is read =
-    let P : Instr → Type 0 = λ x. IsTrue (fits (function_at m.functions.items m.function) x) in
+    let P : Instr → Type 0 = λ x. IsTrue (fits m.functions.items m.code.items m.function x) in
     subst P (sym read) (is.code.fit m.function m.at i is.function is.behind is.before)
 
 -- and where control goes on behind it, so does the function
@@ -49,10 +48,10 @@ goes_on_at m i is read on =
     omega (arith, apart, b)
 
 -- a machine that has not stopped performs the instruction it stands at
-pub next_is : (code : List Instr) (s : State) (i : Instr) → s.core.stopped ≡ None → slice_get code s.core.running.at ≡ Some i → next code s ≡ perform i s
+pub next_is : (program : Program) (s : State) (i : Instr) → s.core.stopped ≡ None → slice_get program.code s.core.running.at ≡ Some i → next program s ≡ perform program i s
 unfolding next
-next_is code s i running found =
-    ap (λ o. cond (is_some o) s (performed (slice_get code s.core.running.at) s)) running ∙ ap (λ o. performed o s) found
+next_is program s i running found =
+    ap (λ o. cond (is_some o) s (performed program (slice_get program.code s.core.running.at) s)) running ∙ ap (λ o. performed program o s) found
 
 -- what was read, under the name that a pattern gives it
 pub read_as : {X : Type 0} (xs : List X) (at : ℕ) (x y : X) → x ≡ slice_index_or xs at x → x ≡ y → y ≡ slice_index_or xs at y
@@ -78,83 +77,82 @@ register_read m r x read below =
     read ∙ get_or_default_zero m.registers.items r x (omega (arith, len))
 
 -- the instructions that stand in an image
-pub built : (f : FnRec) (i : Instr) → fits f i ≡ true
+pub built : (functions : List FnRec) (code : List Instr) (n : ℕ) (i : Instr) → fits functions code n i ≡ true
     → ((to number : ℕ) → i ≡ instr.Const to number → ⊥) → ((to offset : ℕ) → i ≡ instr.Slot to offset → ⊥)
     → ((from k : ℕ) → i ≡ instr.Argument from k → ⊥) → ((from : ℕ) → i ≡ instr.Return from → ⊥)
     → ((to call count : ℕ) → i ≡ instr.Host to call count → ⊥) → ⊥
-built f (instr.Const to number) fit a b c d e = a to number refl
-built f (instr.Slot to offset) fit a b c d e = b to offset refl
-built f (instr.Argument from k) fit a b c d e = c from k refl
-built f (instr.Return from) fit a b c d e = d from refl
-built f (instr.Host to call count) fit a b c d e = e to call count refl
-built f _ fit a b c d e = cc fit
+built functions code n (instr.Const to number) fit a b c d e = a to number refl
+built functions code n (instr.Slot to offset) fit a b c d e = b to offset refl
+built functions code n (instr.Argument from k) fit a b c d e = c from k refl
+built functions code n (instr.Return from) fit a b c d e = d from refl
+built functions code n (instr.Host to call count) fit a b c d e = e to call count refl
+built functions code n _ fit a b c d e = cc fit
 
 -- the machine stands at the checked memset
 abbrev pub AtMemset : Inside → ℕ → Type 0
-AtMemset m to = (m.stopped ≡ None) × (slice_get m.code.items m.at ≡ Some (instr.Host to memset_chk 4))
+AtMemset m to = (end_of_stop m.stopped ≡ None) × (slice_get m.code.items m.at ≡ Some (instr.Host to memset_chk 4))
 
 -- its request exceeds its size
-pub overflows : (m : Inside) (to : ℕ) → AtMemset m to → slot (core_of m) 3 < slot (core_of m) 2 → (input : List ℕ)
-    → next m.code.items (begun (core_of m) input) ≡ having_written (stopping (stops.Ended ends.Overflow) (core_of m)) input overflow_line
+pub overflows : (m : Inside) (to : ℕ) → AtMemset m to → slot_value (core_of m) 3 < slot_value (core_of m) 2 → (input : List ℕ)
+    → next (program_in m) (begun (core_of m) input) ≡ having_written (ending ends.Overflow (core_of m)) input overflow_line
 overflows m to here exceeds input =
     let s = begun (core_of m) input in
     let k = core_of m in
-    next_is m.code.items s (instr.Host to memset_chk 4) here.0 here.1
-    ∙ ap (λ t. cond t (overflowing s) (cond (are_valid (slot k 0) (slot k 2)) (with_core (giving to (slot k 0) (record k { memory = put (slot k 0) (replicate (slot k 2) (slot k 1 % 256)) k.memory })) s) (with_core (stopping (stops.Ended ends.BadAddress) k) s))) (lt-ltb _ _ exceeds)
+    next_is (program_in m) s (instr.Host to memset_chk 4) here.0 here.1
+    ∙ ap (λ t. cond t (overflowing s) (cond (are_valid (slot_value k 0) (slot_value k 2)) (with_core (giving to (slot_value k 0) (record k { memory = put (slot_value k 0) (replicate (slot_value k 2) (slot_value k 1 % 256)) k.memory })) s) (with_core (ending ends.BadAddress k) s))) (lt-ltb _ _ exceeds)
 
 -- some byte that it sets may not be touched
-pub misses : (m : Inside) (to : ℕ) → AtMemset m to → slot (core_of m) 2 ≤ slot (core_of m) 3 → are_valid (slot (core_of m) 0) (slot (core_of m) 2) ≡ false → (input : List ℕ)
-    → next m.code.items (begun (core_of m) input) ≡ begun (stopping (stops.Ended ends.BadAddress) (core_of m)) input
+pub misses : (m : Inside) (to : ℕ) → AtMemset m to → slot_value (core_of m) 2 ≤ slot_value (core_of m) 3 → are_valid (slot_value (core_of m) 0) (slot_value (core_of m) 2) ≡ false → (input : List ℕ)
+    → next (program_in m) (begun (core_of m) input) ≡ begun (ending ends.BadAddress (core_of m)) input
 misses m to here within invalid input =
     let s = begun (core_of m) input in
     let k = core_of m in
-    let yes = with_core (giving to (slot k 0) (record k { memory = put (slot k 0) (replicate (slot k 2) (slot k 1 % 256)) k.memory })) s in
-    let no = with_core (stopping (stops.Ended ends.BadAddress) k) s in
-    next_is m.code.items s (instr.Host to memset_chk 4) here.0 here.1
-    ∙ ap (λ t. cond t (overflowing s) (cond (are_valid (slot k 0) (slot k 2)) yes no)) (le-ltb _ _ within)
+    let yes = with_core (giving to (slot_value k 0) (record k { memory = put (slot_value k 0) (replicate (slot_value k 2) (slot_value k 1 % 256)) k.memory })) s in
+    let no = with_core (ending ends.BadAddress k) s in
+    next_is (program_in m) s (instr.Host to memset_chk 4) here.0 here.1
+    ∙ ap (λ t. cond t (overflowing s) (cond (are_valid (slot_value k 0) (slot_value k 2)) yes no)) (le-ltb _ _ within)
     ∙ ap (λ t. cond t yes no) invalid
 
 -- it sets its bytes
-pub sets : (m : Inside) (to : ℕ) → AtMemset m to → slot (core_of m) 2 ≤ slot (core_of m) 3 → are_valid (slot (core_of m) 0) (slot (core_of m) 2) ≡ true → (input : List ℕ)
-    → next m.code.items (begun (core_of m) input)
-    ≡ begun (giving to (slot (core_of m) 0) (record (core_of m) { memory = put (slot (core_of m) 0) (replicate (slot (core_of m) 2) (slot (core_of m) 1 % 256)) m.memory.items })) input
+pub sets : (m : Inside) (to : ℕ) → AtMemset m to → slot_value (core_of m) 2 ≤ slot_value (core_of m) 3 → are_valid (slot_value (core_of m) 0) (slot_value (core_of m) 2) ≡ true → (input : List ℕ)
+    → next (program_in m) (begun (core_of m) input)
+    ≡ begun (giving to (slot_value (core_of m) 0) (record (core_of m) { memory = put (slot_value (core_of m) 0) (replicate (slot_value (core_of m) 2) (slot_value (core_of m) 1 % 256)) m.memory.items })) input
 sets m to here within valid input =
     let s = begun (core_of m) input in
     let k = core_of m in
-    let yes = with_core (giving to (slot k 0) (record k { memory = put (slot k 0) (replicate (slot k 2) (slot k 1 % 256)) k.memory })) s in
-    let no = with_core (stopping (stops.Ended ends.BadAddress) k) s in
-    next_is m.code.items s (instr.Host to memset_chk 4) here.0 here.1
-    ∙ ap (λ t. cond t (overflowing s) (cond (are_valid (slot k 0) (slot k 2)) yes no)) (le-ltb _ _ within)
+    let yes = with_core (giving to (slot_value k 0) (record k { memory = put (slot_value k 0) (replicate (slot_value k 2) (slot_value k 1 % 256)) k.memory })) s in
+    let no = with_core (ending ends.BadAddress k) s in
+    next_is (program_in m) s (instr.Host to memset_chk 4) here.0 here.1
+    ∙ ap (λ t. cond t (overflowing s) (cond (are_valid (slot_value k 0) (slot_value k 2)) yes no)) (le-ltb _ _ within)
     ∙ ap (λ t. cond t yes no) valid
 
 -- nothing is written, or a line is
-pub wrote_none : (m : Inside) (core' : Core) (written : Option (List ℕ)) → ((input : List ℕ) → next m.code.items (begun (core_of m) input) ≡ begun core' input)
-    → Wrote m.code.items (core_of m) core' written written
+pub wrote_none : (m : Inside) (core' : Core) (written : Option (List ℕ)) → ((input : List ℕ) → next (program_in m) (begun (core_of m) input) ≡ begun core' input)
+    → Wrote (program_in m) (core_of m) core' written written
 wrote_none m core' written state = record { line = []; state = state; written_line = stays written } where
   stays : (w : Option (List ℕ)) → Appends [] w w
   stays None = tt
   stays (Some bytes) = sym (append-nil bytes)
 
 pub wrote_line : (m : Inside) (core' : Core) (line : List ℕ) (written written' : Option (List ℕ))
-    → ((input : List ℕ) → next m.code.items (begun (core_of m) input) ≡ having_written core' input line)
-    → Appends line written written' → Wrote m.code.items (core_of m) core' written written'
+    → ((input : List ℕ) → next (program_in m) (begun (core_of m) input) ≡ having_written core' input line)
+    → Appends line written written' → Wrote (program_in m) (core_of m) core' written written'
 wrote_line m core' line written written' state appended = record { line = line; state = state; written_line = appended }
 
 -- an instruction that writes nothing
-pub wrote_nothing : (m : Inside) (core' : Core) (i : Instr) → IsRunnable m → m.stopped ≡ None → i ≡ slice_index_or m.code.items m.at i
-    → ((input : List ℕ) → perform i (begun (core_of m) input) ≡ begun core' input)
-    → (written : Option (List ℕ)) → Wrote m.code.items (core_of m) core' written written
+pub wrote_nothing : (m : Inside) (core' : Core) (i : Instr) → IsRunnable m → end_of_stop m.stopped ≡ None → i ≡ slice_index_or m.code.items m.at i
+    → ((input : List ℕ) → perform (program_in m) i (begun (core_of m) input) ≡ begun core' input)
+    → (written : Option (List ℕ)) → Wrote (program_in m) (core_of m) core' written written
 wrote_nothing m core' i is running read does written =
-    wrote_none m core' written (λ input. next_is m.code.items (begun (core_of m) input) i running (at_is m i is read) ∙ does input)
+    wrote_none m core' written (λ input. next_is (program_in m) (begun (core_of m) input) i running (at_is m i is read) ∙ does input)
 
 -- standard error failed under a line
-pub failed_line : (m : Inside) (core' at_end : Core) (line : List ℕ) (written written' : Option (List ℕ)) → line ≢ []
-    → ((input : List ℕ) → next m.code.items (begun (core_of m) input) ≡ having_written at_end input line)
-    → AppendsFront line written written' → core'.stopped ≡ Some stops.ErrFault → Failed m.code.items (core_of m) core' written written'
-failed_line m core' at_end line written written' some state front stopped = record {
+pub failed_line : (m : Inside) (at_end : Core) (line : List ℕ) (written written' : Option (List ℕ)) → line ≢ []
+    → ((input : List ℕ) → next (program_in m) (begun (core_of m) input) ≡ having_written at_end input line)
+    → AppendsFront line written written' → FailedWriting (program_in m) (core_of m) written written'
+failed_line m at_end line written written' some state front = record {
   line = line;
   some = some;
   shown = λ input. ap (λ s. s.world.shown) (state input);
   front = front;
-  stopped = stopped;
 }

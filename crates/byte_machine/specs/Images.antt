@@ -1,5 +1,5 @@
 -- What an image is. This project's own.
-use Rattle.std.specs.Prelude.{◌≡◌, ℕ, ◌+◌, ◌%◌, ◌<◌, ◌≤◌, ◌==◌, List, length, Bool, true, false, ◌&&◌, nat_lt, max, cond, IsTrue, ◌⊎◌}
+use Rattle.std.specs.Prelude.{◌≡◌, ℕ, ◌+◌, ◌%◌, ◌^◌, ◌<◌, ◌≤◌, ◌==◌, List, length, Bool, true, false, ◌&&◌, nat_lt, max, cond, IsTrue, ◌⊎◌}
 use Rattle.std.specs.List.{slice_index_or}
 use Rattle.bm_isa.specs.declared.instructions.Instr.{Instr}
 use Rattle.bm_isa.specs.declared.instructions.Instr.TheVariants as instr
@@ -7,14 +7,14 @@ use Rattle.byte_machine.specs.declared.images.FnRec.{FnRec}
 use Rattle.byte_machine.specs.declared.images.Image.{Image}
 
 -- an image as plain data
-pub record Plain : Type 0 where
+pub record PlainImage : Type 0 where
   pub functions : List FnRec
   pub code : List Instr
   pub bytes : List ℕ
   pub entry : ℕ
 
 -- the plain data of an image
-abbrev pub plain_image : Image → Plain
+abbrev pub plain_image : Image → PlainImage
 plain_image image = record { functions = image.functions.items; code = image.code.items; bytes = image.bytes.items; entry = image.entry }
 
 -- a record of no function, for a number that names none
@@ -33,14 +33,14 @@ end_of functions code k = cond (nat_lt (k + 1) (length functions)) (function_at 
 abbrev pub memset_chk : ℕ
 memset_chk = 73
 
--- an instruction stands rightly in a function. The instructions that the machine doesn't have yet stand in none
-abbrev pub fits : FnRec → Instr → Bool
-fits f (instr.Const to number) = nat_lt to f.regs
-fits f (instr.Slot to offset) = nat_lt to f.regs && nat_lt offset (max f.frame 1)
-fits f (instr.Argument from slot) = nat_lt from f.regs && nat_lt slot 64
-fits f (instr.Return from) = nat_lt from f.regs
-fits f (instr.Host to call count) = nat_lt to f.regs && ((call == memset_chk) && (count == 4))
-fits f _ = false
+-- an instruction stands rightly in function k. The instructions that the machine doesn't have yet stand in none
+abbrev pub fits : List FnRec → List Instr → ℕ → Instr → Bool
+fits functions code k (instr.Const to number) = nat_lt to (function_at functions k).regs && nat_lt number (2 ^ 64)
+fits functions code k (instr.Slot to offset) = nat_lt to (function_at functions k).regs && nat_lt offset (max (function_at functions k).frame 1)
+fits functions code k (instr.Argument from slot) = nat_lt from (function_at functions k).regs && nat_lt slot 64
+fits functions code k (instr.Return from) = nat_lt from (function_at functions k).regs
+fits functions code k (instr.Host to call count) = nat_lt to (function_at functions k).regs && ((call == memset_chk) && (count == 4))
+fits functions code k _ = false
 
 -- control doesn't go on behind it
 abbrev pub ends_function : Instr → Bool
@@ -70,12 +70,12 @@ pub record IsCode (functions : List FnRec) (code : List Instr) : Type 0 where
   pub inside : (k : ℕ) → k < length functions → (function_at functions k).first < length code
   pub bounds : (k : ℕ) → k < length functions → IsFunction (function_at functions k)
   pub fit : (k i : ℕ) (d : Instr) → k < length functions → (function_at functions k).first ≤ i → i < end_of functions code k
-      → IsTrue (fits (function_at functions k) (instruction_or d code i))
+      → IsTrue (fits functions code k (instruction_or d code i))
   pub last : (k i : ℕ) (d : Instr) → k < length functions → (function_at functions k).first ≤ i → i + 1 ≡ end_of functions code k
       → IsTrue (ends_function (instruction_or d code i))
 
 -- the machine's table of what an image may have. The entry has no parameters, or argc and argv
-pub record IsImage (image : Plain) : Type 0 where
+pub record IsImage (image : PlainImage) : Type 0 where
   pub some_function : 1 ≤ length image.functions
   pub functions : length image.functions ≤ 4096
   pub some_code : 1 ≤ length image.code

@@ -3,12 +3,11 @@ use Rattle.std.specs.Prelude.{ℕ, ◌+◌, ◌-◌, ◌*◌, ◌/◌, ◌≤◌
 use Rattle.std.specs.List.{flat_map}
 use Rattle.std.specs.Int.{to_le_bytes, w64}
 use Rattle.fc_base.specs.Runs.{Runs}
+use Rattle.fc_base.specs.declared.levels.End.{End}
 use Rattle.fc_base.specs.declared.levels.End.TheVariants as ends
 use Rattle.byte_machine.specs.declared.images.FnRec.{FnRec}
-use Rattle.byte_machine.specs.declared.machine.Stop.{Stop}
-use Rattle.byte_machine.specs.declared.machine.Stop.TheVariants as stops
-use Rattle.byte_machine.specs.Images.{Plain, function_at}
-use Rattle.byte_machine.specs.State.{memory_size, first_valid, data_start, stack_start, stack_frames, stack_weights, whole_heap, Core, State, put, after, standing_of}
+use Rattle.byte_machine.specs.Images.{PlainImage, function_at}
+use Rattle.byte_machine.specs.State.{memory_size, first_valid, data_start, stack_start, stack_frames, stack_weights, whole_heap, Core, State, Program, put, after, standing_of}
 
 -- each argument counts its length and 32 more; the sum is bounded
 abbrev pub ArgumentsFit : List (List ℕ) → Type 0
@@ -46,7 +45,7 @@ argument_section args =
     ++ (flat_map (to_le_bytes w64) (addresses first_valid (argument_words args)) ++ to_le_bytes w64 0)
 
 -- all bytes are zero but for the arguments and the data
-unfoldable pub first_memory : Plain → List (List ℕ) → List ℕ
+unfoldable pub first_memory : PlainImage → List (List ℕ) → List ℕ
 first_memory image args =
     put data_start image.bytes (put first_valid (argument_section args) (replicate memory_size 0))
 
@@ -55,31 +54,35 @@ abbrev pub first_registers : FnRec → List (List ℕ) → List ℕ
 first_registers f args =
     cond (f.params == 2) (length (argument_words args) ∷ argv_address args ∷ replicate (f.regs - 2) 0) (replicate f.regs 0)
 
--- an entry whose frame or weight alone passes the stack's numbers stops the machine before its first instruction
-abbrev pub first_stop : FnRec → Option Stop
-first_stop f = cond (nat_lt stack_frames f.frame || nat_lt stack_weights f.weight) (Some (stops.Ended ends.StackFull)) None
+-- an entry whose frame or weight alone passes the stack's numbers ends the run before its first instruction
+abbrev pub first_end : FnRec → Option End
+first_end f = cond (nat_lt stack_frames f.frame || nat_lt stack_weights f.weight) (Some ends.StackFull) None
 
 -- the machine at the first instruction of the entry
-abbrev pub core_at : Plain → List (List ℕ) → FnRec → Core
+abbrev pub core_at : PlainImage → List (List ℕ) → FnRec → Core
 core_at image args f = record {
   memory = first_memory image args;
   running = record { function = image.entry; at = f.first; base = stack_start; registers = first_registers f args };
   callers = [];
   slots = replicate 64 0;
   heap = whole_heap;
-  stopped = first_stop f;
+  stopped = first_end f;
 }
 
 -- the machine as it is opened
-abbrev pub first_core : Plain → List (List ℕ) → Core
+abbrev pub first_core : PlainImage → List (List ℕ) → Core
 first_core image args = core_at image args (function_at image.functions image.entry)
 
 -- a machine with these bytes before it, that has shown nothing
 abbrev pub begun : Core → List ℕ → State
 begun core input = record { core = core; world = record { input = input; shown = [] } }
 
+-- the functions and the code of an image
+abbrev pub program_of : PlainImage → Program
+program_of image = record { functions = image.functions; code = image.code }
+
 -- the machine's run: what is shown after each number of instructions, and how it stands
-abbrev pub machine_runs : Plain → List (List ℕ) → List ℕ → Runs
+abbrev pub machine_runs : PlainImage → List (List ℕ) → List ℕ → Runs
 machine_runs image args input m =
-    let s = after image.code m (begun (first_core image args) input) in
+    let s = after (program_of image) m (begun (first_core image args) input) in
     (s.world.shown, standing_of s.core.stopped)

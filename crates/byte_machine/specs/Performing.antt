@@ -2,9 +2,9 @@
 use Rattle.std.specs.Prelude.{◌≡◌, ◌≢◌, ℕ, List, [], Option, None, Some}
 use Rattle.fc_base.specs.Outside.{Appends, AppendsFront}
 use Rattle.fc_base.specs.Runs.{on_descriptor}
-use Rattle.bm_isa.specs.declared.instructions.Instr.{Instr}
-use Rattle.byte_machine.specs.State.{Core, State, next}
+use Rattle.byte_machine.specs.State.{Core, State, Program, next}
 use Rattle.byte_machine.specs.Opening.{begun}
+use Rattle.byte_machine.specs.Machines.{Loaded}
 use Rattle.byte_machine.specs.declared.machine.Stop.TheVariants as stops
 use Rattle.byte_machine.specs.declared.machine.Step.{Step}
 use Rattle.byte_machine.specs.declared.machine.Step.TheVariants as steps
@@ -14,23 +14,24 @@ abbrev pub having_written : Core → List ℕ → List ℕ → State
 having_written core input line = record { core = core; world = record { input = input; shown = on_descriptor 2 line } }
 
 -- the instruction was carried out, on any input, and wrote this line
-pub record Wrote (code : List Instr) (core core' : Core) (written written' : Option (List ℕ)) : Type 0 where
+pub record Wrote (program : Program) (core core' : Core) (written written' : Option (List ℕ)) : Type 0 where
   pub line : List ℕ
-  pub state : (input : List ℕ) → next code (begun core input) ≡ having_written core' input line
+  pub state : (input : List ℕ) → next program (begun core input) ≡ having_written core' input line
   pub written_line : Appends line written written'
 
 -- standard error failed in an instruction that writes this line, of which a front was written
-pub record Failed (code : List Instr) (core core' : Core) (written written' : Option (List ℕ)) : Type 0 where
+pub record FailedWriting (program : Program) (core : Core) (written written' : Option (List ℕ)) : Type 0 where
   pub line : List ℕ
   pub some : line ≢ []
-  pub shown : (input : List ℕ) → (next code (begun core input)).world.shown ≡ on_descriptor 2 line
+  pub shown : (input : List ℕ) → (next program (begun core input)).world.shown ≡ on_descriptor 2 line
   pub front : AppendsFront line written written'
-  pub stopped : core'.stopped ≡ Some stops.ErrFault
 
 -- what a step's answer says
-abbrev pub Performs : List Instr → Core → Core → Step → Option (List ℕ) → Option (List ℕ) → Type 0
-Performs code core core' steps.Going written written' = Wrote code core core' written written' × (core'.stopped ≡ None)
-Performs code core core' (steps.Stopped (stops.Ended end)) written written' =
-    Wrote code core core' written written' × (core'.stopped ≡ Some (stops.Ended end))
-Performs code core core' (steps.Stopped stops.ErrFault) written written' = Failed code core core' written written'
-Performs code core core' _ written written' = ⊥
+abbrev pub Performs : Loaded → Loaded → Step → Option (List ℕ) → Option (List ℕ) → Type 0
+Performs old new steps.Going written written' =
+    Wrote old.program old.core new.core written written' × (new.core.stopped ≡ None) × (new.stop ≡ None)
+Performs old new (steps.Stopped (stops.Ended end)) written written' =
+    Wrote old.program old.core new.core written written' × (new.core.stopped ≡ Some end) × (new.stop ≡ Some (stops.Ended end))
+Performs old new (steps.Stopped stops.ErrFault) written written' =
+    FailedWriting old.program old.core written written' × (new.stop ≡ Some stops.ErrFault)
+Performs old new _ written written' = ⊥

@@ -34,9 +34,12 @@ pub enum Step {
 const OVERFLOW_LINE: &[u8; 45] = b"*** buffer overflow detected ***: terminated\n";
 
 /// The addresses that may be touched begin and end here.
-const FIRST_VALID: u64 = 65_536;
+pub const FIRST_VALID: u64 = 65_536;
 
-const MEMORY_SIZE: u64 = 17_825_792;
+pub const MEMORY_SIZE: u64 = 17_825_792;
+
+/// Where the data section begins.
+pub const DATA_START: u64 = 1_048_576;
 
 /// Where the frame of the first call begins.
 const STACK_START: u64 = 5_242_880;
@@ -74,22 +77,32 @@ impl Machine {
         out: &mut O,
         err: &mut E,
     ) -> Step
-        ensures again { IfSome self.old.core.stopped (λ stop. (result ≡ Step.Stopped stop) × (self.new ≡ self.old) × (err.new ≡ err.old)) }
-        ensures untouched { (input.new ≡ input.old) × (out.new ≡ out.old) }
-        ensures program { (self.new.functions ≡ self.old.functions) × (self.new.code ≡ self.old.code) }
-        ensures going { self.old.core.stopped ≡ None → result ≡ Step.Going → (self.new.core.stopped ≡ None)
-            × Advances 1 self.old.code self.old.core self.new.core (I.left input.old) (I.left input.new)
+        ensures again { IfSome self.old.stop (λ stop. (result ≡ Step.Stopped stop) × (self.new ≡ self.old)
+            × (input.new ≡ input.old) × (out.new ≡ out.old) × (err.new ≡ err.old)) }
+        ensures program { self.new.program ≡ self.old.program }
+        ensures going { self.old.stop ≡ None → result ≡ Step.Going →
+            (self.new.core.stopped ≡ None) × (self.new.stop ≡ None)
+            × Advances 1 self.old.program self.old.core self.new.core (I.left input.old) (I.left input.new)
             (O.written out.old) (O.written out.new) (E.written err.old) (E.written err.new) }
-        ensures ended { (end : End) → self.old.core.stopped ≡ None → result ≡ Step.Stopped (Stop.Ended end) → (self.new.core.stopped ≡ Some (Stop.Ended end))
-            × Advances 1 self.old.code self.old.core self.new.core (I.left input.old) (I.left input.new)
+        ensures ended { (end : End) → self.old.stop ≡ None → result ≡ Step.Stopped (Stop.Ended end) →
+            (self.new.core.stopped ≡ Some end) × (self.new.stop ≡ Some (Stop.Ended end))
+            × Advances 1 self.old.program self.old.core self.new.core (I.left input.old) (I.left input.new)
             (O.written out.old) (O.written out.new) (E.written err.old) (E.written err.new) }
-        ensures failed { self.old.core.stopped ≡ None → result ≡ Step.Stopped Stop.ErrFault → (self.new.core.stopped ≡ Some Stop.ErrFault)
+        ensures input_failed { self.old.stop ≡ None → result ≡ Step.Stopped Stop.InputFault → (self.new.stop ≡ Some Stop.InputFault)
+            × Rose (I.count input.old) (I.count input.new)
+            × FailsAfter 0 0 self.old.program self.old.core (I.left input.old) (I.left input.new)
+            (O.written out.old) (O.written out.new) (E.written err.old) (E.written err.new) }
+        ensures out_failed { self.old.stop ≡ None → result ≡ Step.Stopped Stop.OutFault → (self.new.stop ≡ Some Stop.OutFault)
+            × Rose (O.count out.old) (O.count out.new)
+            × FailsAfter 0 1 self.old.program self.old.core (I.left input.old) (I.left input.new)
+            (O.written out.old) (O.written out.new) (E.written err.old) (E.written err.new) }
+        ensures err_failed { self.old.stop ≡ None → result ≡ Step.Stopped Stop.ErrFault → (self.new.stop ≡ Some Stop.ErrFault)
             × Rose (E.count err.old) (E.count err.new)
-            × FailsAfter 0 2 self.old.code self.old.core (I.left input.old) (I.left input.new)
+            × FailsAfter 0 2 self.old.program self.old.core (I.left input.old) (I.left input.new)
             (O.written out.old) (O.written out.new) (E.written err.old) (E.written err.new) }
-        // No instruction so far asks for input or writes on standard output.
-        ensures only { self.old.core.stopped ≡ None →
-            (result ≢ Step.Stopped Stop.OutOfSteps) × (result ≢ Step.Stopped Stop.InputFault) × (result ≢ Step.Stopped Stop.OutFault) }
+        ensures no_bound { self.old.stop ≡ None → result ≢ Step.Stopped Stop.OutOfSteps }
+        ensures counts { (I.count input.old ≤ I.count input.new) × (O.count out.old ≤ O.count out.new)
+            × (E.count err.old ≤ E.count err.new) }
     {
         match self.stopped {
             Some(stop) => Step::Stopped(stop),
@@ -105,21 +118,31 @@ impl Machine {
         err: &mut E,
         budget: u64,
     ) -> Stop
-        ensures again { IfSome self.old.core.stopped (λ stop. (result ≡ stop) × (self.new ≡ self.old) × (err.new ≡ err.old)) }
-        ensures untouched { (input.new ≡ input.old) × (out.new ≡ out.old) }
-        ensures program { (self.new.functions ≡ self.old.functions) × (self.new.code ≡ self.old.code) }
-        ensures ended { (end : End) → self.old.core.stopped ≡ None → result ≡ Stop.Ended end → (self.new.core.stopped ≡ Some (Stop.Ended end))
-            × ((m : ℕ) × (m ≤ budget) × Advances m self.old.code self.old.core self.new.core (I.left input.old) (I.left input.new)
+        ensures again { IfSome self.old.stop (λ stop. (result ≡ stop) × (self.new ≡ self.old)
+            × (input.new ≡ input.old) × (out.new ≡ out.old) × (err.new ≡ err.old)) }
+        ensures program { self.new.program ≡ self.old.program }
+        ensures ended { (end : End) → self.old.stop ≡ None → result ≡ Stop.Ended end →
+            (self.new.core.stopped ≡ Some end) × (self.new.stop ≡ Some (Stop.Ended end))
+            × ((m : ℕ) × (m ≤ budget) × Advances m self.old.program self.old.core self.new.core (I.left input.old) (I.left input.new)
             (O.written out.old) (O.written out.new) (E.written err.old) (E.written err.new)) }
-        ensures out_of_steps { self.old.core.stopped ≡ None → result ≡ Stop.OutOfSteps → (self.new.core.stopped ≡ None)
-            × Advances budget self.old.code self.old.core self.new.core (I.left input.old) (I.left input.new)
+        ensures out_of_steps { self.old.stop ≡ None → result ≡ Stop.OutOfSteps →
+            (self.new.core.stopped ≡ None) × (self.new.stop ≡ None)
+            × Advances budget self.old.program self.old.core self.new.core (I.left input.old) (I.left input.new)
             (O.written out.old) (O.written out.new) (E.written err.old) (E.written err.new) }
-        ensures failed { self.old.core.stopped ≡ None → result ≡ Stop.ErrFault → (self.new.core.stopped ≡ Some Stop.ErrFault)
-            × Rose (E.count err.old) (E.count err.new)
-            × ((m : ℕ) × (m < budget) × FailsAfter m 2 self.old.code self.old.core (I.left input.old) (I.left input.new)
+        ensures input_failed { self.old.stop ≡ None → result ≡ Stop.InputFault → (self.new.stop ≡ Some Stop.InputFault)
+            × Rose (I.count input.old) (I.count input.new)
+            × ((m : ℕ) × (m < budget) × FailsAfter m 0 self.old.program self.old.core (I.left input.old) (I.left input.new)
             (O.written out.old) (O.written out.new) (E.written err.old) (E.written err.new)) }
-        // No instruction so far asks for input or writes on standard output.
-        ensures only { self.old.core.stopped ≡ None → (result ≢ Stop.InputFault) × (result ≢ Stop.OutFault) }
+        ensures out_failed { self.old.stop ≡ None → result ≡ Stop.OutFault → (self.new.stop ≡ Some Stop.OutFault)
+            × Rose (O.count out.old) (O.count out.new)
+            × ((m : ℕ) × (m < budget) × FailsAfter m 1 self.old.program self.old.core (I.left input.old) (I.left input.new)
+            (O.written out.old) (O.written out.new) (E.written err.old) (E.written err.new)) }
+        ensures err_failed { self.old.stop ≡ None → result ≡ Stop.ErrFault → (self.new.stop ≡ Some Stop.ErrFault)
+            × Rose (E.count err.old) (E.count err.new)
+            × ((m : ℕ) × (m < budget) × FailsAfter m 2 self.old.program self.old.core (I.left input.old) (I.left input.new)
+            (O.written out.old) (O.written out.new) (E.written err.old) (E.written err.new)) }
+        ensures counts { (I.count input.old ≤ I.count input.new) × (O.count out.old ≤ O.count out.new)
+            × (E.count err.old ≤ E.count err.new) }
     {
         if let Some(stop) = self.stopped {
             return stop;
@@ -137,10 +160,9 @@ impl Machine {
 impl Machine {
     /// Carries out one instruction of a machine that has not stopped.
     fn advance<E: Sink>(&mut self, err: &mut E) -> Step
-        requires { self.old.core.stopped ≡ None }
-        ensures functions { self.new.functions ≡ self.old.functions }
-        ensures code { self.new.code ≡ self.old.code }
-        ensures performed { Performs self.old.code self.old.core self.new.core result (E.written err.old) (E.written err.new) }
+        requires { self.old.stop ≡ None }
+        ensures program { self.new.program ≡ self.old.program }
+        ensures performed { Performs self.old self.new result (E.written err.old) (E.written err.new) }
         ensures counts { E.count err.old ≤ E.count err.new }
         ensures failed { result ≡ Step.Stopped Stop.ErrFault → Rose (E.count err.old) (E.count err.new) }
     {
@@ -176,13 +198,12 @@ impl Machine {
 
     /// glibc's `__memset_chk`, with the place, the byte, the count and the size in the argument slots.
     fn set_memory<E: Sink>(&mut self, to: u32, err: &mut E) -> Step
-        requires instruction { slice_get self.old.code self.old.core.running.at ≡ Some (Instr.Host to memset_chk 4) }
+        requires instruction { slice_get self.old.program.code self.old.core.running.at ≡ Some (Instr.Host to memset_chk 4) }
         requires register { to < length self.old.core.running.registers }
-        requires goes_on { self.old.core.running.at + 1 < end_of self.old.functions self.old.code self.old.core.running.function }
-        requires running { self.old.core.stopped ≡ None }
-        ensures functions { self.new.functions ≡ self.old.functions }
-        ensures code { self.new.code ≡ self.old.code }
-        ensures performed { Performs self.old.code self.old.core self.new.core result (E.written err.old) (E.written err.new) }
+        requires goes_on { self.old.core.running.at + 1 < end_of self.old.program.functions self.old.program.code self.old.core.running.function }
+        requires running { self.old.stop ≡ None }
+        ensures program { self.new.program ≡ self.old.program }
+        ensures performed { Performs self.old self.new result (E.written err.old) (E.written err.new) }
         ensures counts { E.count err.old ≤ E.count err.new }
         ensures failed { result ≡ Step.Stopped Stop.ErrFault → Rose (E.count err.old) (E.count err.new) }
     {

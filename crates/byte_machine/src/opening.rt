@@ -1,1 +1,1 @@
-//! Opening a machine: all memory of a run is taken here.
+//! Opening a machine.

@@ -1,10 +1,11 @@
 -- Following composes.
 use Rattle.std.proofs.Common.{◌≡◌, ℕ, ◌≤◌, ◌++◌, refl, sym, ◌∙◌, ap, append_assoc, arith}
-use Rattle.fc_base.specs.Runs.{Shown, Standing, Ended, Undefined, Going, Runs, Begins, Follows, FollowsComposes}
+use Rattle.fc_base.specs.Outside.{IsFront}
+use Rattle.fc_base.specs.Runs.{Shown, Standing, Ended, Undefined, Going, Runs, Follows, FollowsComposes}
 
 -- the middle run shows at least the first one's list, however it stands, and so does the last one
-past : (g : ℕ → ℕ) (b c : Runs) → Follows g c b → (m : ℕ) (list : Shown) → Begins (b m).0 list
-    → (seen : Shown) (standing : Standing) → b m ≡ (seen, standing) → (k : ℕ) × Begins (c k).0 list
+past : (g : ℕ → ℕ) (b c : Runs) → Follows g c b → (m : ℕ) (list : Shown) → IsFront list (b m).0
+    → (seen : Shown) (standing : Standing) → b m ≡ (seen, standing) → (k : ℕ) × IsFront list (c k).0
 past g b c follows m list begins seen (Ended end) is =
     let next = follows.ends m seen end is in
     let same : (c next.0).0 ≡ (b m).0 = ap (λ x. x.0) next.2 ∙ sym (ap (λ x. x.0) is) in

@@ -1,6 +1,6 @@
 -- What moves on each descriptor, and how moves compose.
-use Rattle.std.proofs.Common.{◌≡◌, ℕ, ◌+◌, ◌≤◌, ◌==◌, min, List, [], ◌∷◌, ◌++◌, Bool, true, false, cond, map, filter, Option, None, Some, refl, sym, ◌∙◌, ap, append_assoc, append-nil, subst, arith}
-use Rattle.fc_base.specs.Outside.{Turns, Takes, Appends, IsFront, AppendsFront, Rose}
+use Rattle.std.proofs.Common.{◌≡◌, ℕ, ◌≤◌, ◌==◌, List, [], ◌∷◌, ◌++◌, Bool, true, false, cond, map, filter, Option, None, Some, refl, sym, ◌∙◌, ap, append_assoc, append-nil, subst, arith}
+use Rattle.fc_base.specs.Outside.{Takes, Appends, Rose}
 use Rattle.fc_base.specs.Runs.{Shown, on_descriptor, bytes_on, Moves, MovesUpTo}
 
 -- bytes of one descriptor are all on it, and none is on another

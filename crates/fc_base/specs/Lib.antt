@@ -1,4 +1,3 @@
-pub mod Counts
 pub mod Events
 pub mod MemoryStore
 pub mod MemoryStreams

@@ -4,7 +4,7 @@ use Rattle.std.specs.Option.{option_map}
 use Rattle.std.specs.List.{list_any}
 use Rattle.std.specs.BTreeMap.{get_by_text}
 use Rattle.fc_base.specs.Outside.{Files}
-use Rattle.fc_base.specs.Counts.{one_more}
+use Rattle.fc_base.specs.Outside.{one_more}
 use Rattle.fc_base.specs.declared.faults.FetchFault.{FetchFault}
 use Rattle.fc_base.specs.declared.faults.FetchFault.TheVariants as fetch
 use Rattle.fc_base.specs.declared.faults.KeepFault.{KeepFault}

@@ -1,7 +1,7 @@
 -- The source and the sink in memory, as contracts see them, and what a call leaves of them. This project's own.
 use Rattle.std.specs.Prelude.{ℕ, ◌-◌, nat_lt, if◌then◌else◌, List, ◌++◌, length, take, drop, Option, unwrap_or}
 use Rattle.std.specs.Option.{option_map}
-use Rattle.fc_base.specs.Counts.{one_more}
+use Rattle.fc_base.specs.Outside.{one_more}
 
 -- the bytes not yet taken, how many of them are given before the source fails (none where it never fails), and how often it failed
 pub record SourceState : Type 0 where

@@ -28,9 +28,9 @@ IsAtEnd left = IfTold left (λ bytes. bytes ≡ [])
 abbrev pub Appends : List ℕ → Option (List ℕ) → Option (List ℕ) → Type 0
 Appends bytes = Turns (λ old new. new ≡ old ++ bytes)
 
--- the one list of bytes is a front of the other
-abbrev pub IsFront : List ℕ → List ℕ → Type 0
-IsFront front whole = (rest : List ℕ) × (whole ≡ front ++ rest)
+-- the one list is a front of the other
+abbrev pub IsFront : {A : Type 0} → List A → List A → Type 0
+IsFront {A} front whole = (rest : List A) × (whole ≡ front ++ rest)
 
 -- some front of these bytes is appended
 abbrev pub AppendsFront : List ℕ → Option (List ℕ) → Option (List ℕ) → Type 0
@@ -52,6 +52,10 @@ last_count = 2 ^ 64 - 1
 abbrev pub Counts : ℕ → ℕ → Type 0
 Counts old new = (old ≤ new) × (new ≤ last_count)
 
+-- a count after one more: at its last value it stands still
+abbrev pub one_more : ℕ → ℕ
+one_more count = min (count + 1) last_count
+
 -- a count that rose in a call, or stands at its last value
 abbrev pub Rose : ℕ → ℕ → Type 0
-Rose old new = min (old + 1) last_count ≤ new
+Rose old new = one_more old ≤ new

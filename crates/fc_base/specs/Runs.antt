@@ -29,16 +29,12 @@ pub data Standing : Type 0 where
 abbrev pub Runs : Type 0
 Runs = ℕ → Shown × Standing
 
--- the list begins with the front
-abbrev pub Begins : Shown → Shown → Type 0
-Begins list front = (rest : Shown) × (list ≡ front ++ rest)
-
 -- b does what a does, up to a's first undefined operation. An end that a reaches within n steps b reaches within
 -- limit n, and where a goes on, so does b
 pub record Follows (limit : ℕ → ℕ) (b a : Runs) : Type 0 where
   pub ends : (n : ℕ) (list : Shown) (end : End) → a n ≡ (list, Ended end) → (m : ℕ) × (m ≤ limit n) × (b m ≡ (list, Ended end))
   pub goes_on : (n : ℕ) (list : Shown) → a n ≡ (list, Going) → (m : ℕ) × (n ≤ m) × (b m ≡ (list, Going))
-  pub until : (n : ℕ) (list : Shown) (kind : UndefKind) (place : Place) → a n ≡ (list, Undefined kind place) → (m : ℕ) × Begins (b m).0 list
+  pub until : (n : ℕ) (list : Shown) (kind : UndefKind) (place : Place) → a n ≡ (list, Undefined kind place) → (m : ℕ) × IsFront list (b m).0
 
 -- a larger number has no smaller image
 abbrev pub IsMonotone : (ℕ → ℕ) → Type 0

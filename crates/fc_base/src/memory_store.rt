@@ -2,7 +2,7 @@
 
 ghost use Rattle.std.specs.Prelude.{◌≡◌, ◌≢◌, ℕ, ◌<◌, ◌≤◌, List, [], length, vec_len, option_copied, option_map, None, Some, Err, IfOk, OnOk, OnErr, IsSome, IsSomeAnd};
 ghost use Rattle.std.specs.BTreeMap.{get_by_text};
-ghost use Rattle.fc_base.specs.Counts.{one_more};
+ghost use Rattle.fc_base.specs.Outside.{one_more};
 ghost use Rattle.fc_base.specs.MemoryStore.{count_of, files_of, fetch_count_of, keep_count_of, failing_of, calls_of, fails_next, fetched, AnswersFetch, AnswersKeep, faults_after_fetch, calls_after_fetch, faults_after_keep, calls_after_keep, KeepsCounts, IsNew};
 ghost use Rattle.fc_base.specs.Outside.{last_count, Puts, KeepsOthers, Counts, Rose};
 
@@ -160,6 +160,8 @@ impl Store for MemStore {
         ensures failed { result ≡ Err FetchFault.Failed →
             Rose (fetch_count_of self.old name.now) (fetch_count_of self.new name.now) }
         ensures same_files { Some (files_of self.new) ≡ Some (files_of self.old) }
+        ensures uncounted { result ≢ Err FetchFault.Failed →
+            fetch_count_of self.new name.now ≡ fetch_count_of self.old name.now }
         ensures counts { Counts (fetch_count_of self.old name.now) (fetch_count_of self.new name.now) }
         ensures other_fetches { (other : List ℕ) → other ≢ name.now →
             fetch_count_of self.new other ≡ fetch_count_of self.old other }
@@ -195,6 +197,8 @@ impl Store for MemStore {
         ensures others { KeepsOthers name.now (Some (files_of self.old)) (Some (files_of self.new)) }
         ensures no_memory { result ≡ Err KeepFault.NoMemory →
             Some (files_of self.new) ≡ Some (files_of self.old) }
+        ensures uncounted { result ≢ Err KeepFault.Failed →
+            keep_count_of self.new name.now ≡ keep_count_of self.old name.now }
         ensures failed { result ≡ Err KeepFault.Failed →
             Rose (keep_count_of self.old name.now) (keep_count_of self.new name.now) }
         ensures counts { Counts (keep_count_of self.old name.now) (keep_count_of self.new name.now) }

@@ -29,6 +29,8 @@ pub trait Store {
         ensures failed { result ≡ Err FetchFault.Failed →
             Rose (fetch_count self.old name.now) (fetch_count self.new name.now) }
         ensures same_files { files self.new ≡ files self.old }
+        ensures uncounted { result ≢ Err FetchFault.Failed →
+            fetch_count self.new name.now ≡ fetch_count self.old name.now }
         ensures counts { Counts (fetch_count self.old name.now) (fetch_count self.new name.now) }
         ensures other_fetches { (other : List ℕ) → other ≢ name.now →
             fetch_count self.new other ≡ fetch_count self.old other }
@@ -39,6 +41,8 @@ pub trait Store {
         ensures kept { OnOk result (Puts name.now bytes.now (files self.old) (files self.new)) }
         ensures others { KeepsOthers name.now (files self.old) (files self.new) }
         ensures no_memory { result ≡ Err KeepFault.NoMemory → files self.new ≡ files self.old }
+        ensures uncounted { result ≢ Err KeepFault.Failed →
+            keep_count self.new name.now ≡ keep_count self.old name.now }
         ensures failed { result ≡ Err KeepFault.Failed →
             Rose (keep_count self.old name.now) (keep_count self.new name.now) }
         ensures counts { Counts (keep_count self.old name.now) (keep_count self.new name.now) }

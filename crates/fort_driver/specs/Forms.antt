@@ -1,8 +1,7 @@
 -- The one form of source that is compiled so far, and its plain meaning.
-use Rattle.std.specs.Prelude.{◌≡◌, ℕ, ◌+◌, ◌≤◌, List, [], ◌∷◌, ◌++◌, length, true, false, nat_lt, Option, None, Some, codes, decimal, ◌⊎◌}
+use Rattle.std.specs.Prelude.{◌≡◌, ℕ, ◌+◌, ◌≤◌, List, [], ◌∷◌, ◌++◌, length, false, nat_lt, Some, codes, decimal, ◌⊎◌}
 use Rattle.fc_base.specs.Events.{Event, Asked, Check, source_shown}
-use Rattle.fc_base.specs.Runs.{Shown, Standing, Ended, Runs}
-use Rattle.fc_base.specs.declared.levels.End.{End}
+use Rattle.fc_base.specs.Runs.{Ended, Runs}
 use Rattle.fc_base.specs.declared.levels.End.TheVariants as ends
 use Rattle.fc_base.specs.declared.levels.Level.TheVariants as levels
 use Rattle.fc_base.specs.declared.levels.Mode.TheVariants as modes
@@ -24,14 +23,14 @@ form_text form =
     ++ (codes ", " ++ (decimal form.count ++ (codes "); return " ++ (decimal form.result ++ codes "; }"))))))))
 
 -- the source is the form, with or without a newline at its end
-abbrev pub Spells : List ℕ → Form → Type 0
-Spells source form = (source ≡ form_text form) ⊎ (source ≡ form_text form ++ 10 ∷ [])
+abbrev pub IsTextOf : List ℕ → Form → Type 0
+IsTextOf source form = (source ≡ form_text form) ⊎ (source ≡ form_text form ++ 10 ∷ [])
 
 -- where the call stands: behind 24 bytes, the size, and `]; `
 abbrev pub call_place : Form → Place
 call_place form = record { line = 2; col = 28 + length (decimal form.size) }
 
--- the events of the form's plain meaning (C11 7.21.6.1, glibc's `__memset_chk`): the size of the array is asked in mode 0, and is
+-- the events of the form's plain meaning (C11 7.24.6.1, glibc's `__memset_chk`): the size of the array is asked in mode 0, and is
 -- its true size; the call exceeds where it sets more bytes than that
 abbrev pub form_events : Form → List Event
 form_events form =

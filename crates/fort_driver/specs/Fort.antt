@@ -1,20 +1,20 @@
 -- What the top call promises. This project's own.
-use Rattle.std.specs.Prelude.{◌≡◌, ◌≢◌, ℕ, ◌+◌, ◌*◌, ◌≤◌, ◌<◌, List, [], ◌∷◌, length, Option, None, Some, ⊤, true, false, ◌⊎◌}
+use Rattle.std.specs.Prelude.{◌≡◌, ◌≢◌, ℕ, ◌+◌, ◌*◌, ◌≤◌, ◌<◌, ◌^◌, List, length, Option, None, Some, ⊤, ◌⊎◌}
+use Rattle.std.specs.List.{AllByRecursion}
 use Rattle.fc_base.specs.Outside.{Files, IfTold, Puts, KeepsOthers, Rose}
-use Rattle.fc_base.specs.Runs.{Shown, Standing, Ended, Runs, Follows}
+use Rattle.fc_base.specs.Runs.{Ended, Follows}
 use Rattle.fc_base.specs.declared.levels.End.{End}
 use Rattle.fc_base.specs.declared.refusals.Refusal.{Refusal}
 use Rattle.fc_base.specs.declared.rules.Rule.TheVariants as rules
-use Rattle.byte_machine.specs.Images.{Plain, function_at}
-use Rattle.byte_machine.specs.Opening.{ArgumentsFit, first_core, machine_runs}
+use Rattle.byte_machine.specs.Images.{PlainImage, function_at}
+use Rattle.byte_machine.specs.Opening.{ArgumentsFit, first_core, machine_runs, program_of}
 use Rattle.byte_machine.specs.Machines.{Advances, FailsAfter}
 use Rattle.byte_machine.specs.State.{Core}
-use Rattle.byte_machine.specs.declared.machine.Stop.TheVariants as stops
 use Rattle.fort_driver.specs.declared.forms.Form.{Form}
 use Rattle.fort_driver.specs.declared.outcomes.Outcome.{Outcome}
 use Rattle.fort_driver.specs.declared.outcomes.Outcome.TheVariants as outcomes
-use Rattle.fort_driver.specs.Commands.{Command, Means, run_of, default_steps}
-use Rattle.fort_driver.specs.Forms.{IsForm, Spells, form_runs}
+use Rattle.fort_driver.specs.Commands.{Means, run_of}
+use Rattle.fort_driver.specs.Forms.{IsForm, IsTextOf, form_runs}
 use Rattle.fort_driver.specs.Spelling.{SpellsImage}
 
 -- the longest source, in bytes
@@ -22,24 +22,28 @@ abbrev pub longest_source : ℕ
 longest_source = 1048576
 
 -- the weight that bounds an image's run: that of its one function
-abbrev pub weight : Plain → ℕ
-weight image = (function_at image.functions 0).weight
+abbrev pub image_weight : PlainImage → ℕ
+image_weight image = (function_at image.functions 0).weight
 
--- within how many instructions an image ends that ends after n steps of its source
+-- within how many instructions an image of weight w ends that ends after n steps of its source
 abbrev pub end_bound : ℕ → ℕ → ℕ
 end_bound w n = 3 * w * w * (n + 1)
 
+-- each number is a byte
+abbrev pub AreBytes : List ℕ → Type 0
+AreBytes bytes = AllByRecursion (λ byte. byte < 2 ^ 8) bytes
+
 -- the image does what the form means, by itself: it has one function, of at most its weight in instructions, and on all
 -- arguments and input its machine follows the form
-pub record Agrees (image : Plain) (form : Form) : Type 0 where
+pub record Agrees (image : PlainImage) (form : Form) : Type 0 where
   pub one : length image.functions ≡ 1
-  pub small : length image.code ≤ weight image
-  pub follows : (args : List (List ℕ)) → ArgumentsFit args → (input : List ℕ)
-    → Follows (end_bound (weight image)) (machine_runs image args input) (form_runs form)
+  pub small : length image.code ≤ image_weight image
+  pub follows : (args : List (List ℕ)) → ArgumentsFit args → AllByRecursion AreBytes args → (input : List ℕ) → AreBytes input
+      → Follows (end_bound (image_weight image)) (machine_runs image args input) (form_runs form)
 
 -- the words are `run FILE IMAGE`
 abbrev pub IsRun : List (List ℕ) → List ℕ → List ℕ → Type 0
-IsRun words file name = Means words (run_of file name)
+IsRun words file image_name = Means words (run_of file image_name)
 
 -- these bytes stand under the name, where the store tells them
 abbrev pub Holds : Option Files → List ℕ → List ℕ → Type 0
@@ -47,43 +51,46 @@ Holds files name bytes = IfTold files (λ f. f name ≡ Some bytes)
 
 -- the store is the old one with an image under IMAGE, spelled in bytes, that agrees with the form of the bytes that
 -- were fetched under FILE
-pub record Keeps (words : List (List ℕ)) (files files' : Option Files) (image : Plain) : Type 0 where
+pub record Keeps (words : List (List ℕ)) (files files' : Option Files) (image : PlainImage) : Type 0 where
   pub file : List ℕ
-  pub name : List ℕ
-  pub command : IsRun words file name
+  pub image_name : List ℕ
+  pub command : IsRun words file image_name
   pub source : List ℕ
   pub fetched : Holds files file source
   pub form : Form
   pub form_ok : IsForm form
-  pub is_form : Spells source form
+  pub is_form : IsTextOf source form
   pub bytes : List ℕ
-  pub kept : Puts name bytes files files'
+  pub kept : Puts image_name bytes files files'
   pub spelled : SpellsImage bytes image
   pub agrees : Agrees image form
 
 -- some image was kept
 abbrev pub KeepsSome : List (List ℕ) → Option Files → Option Files → Type 0
-KeepsSome words files files' = (image : Plain) × Keeps words files files' image
+KeepsSome words files files' = (image : PlainImage) × Keeps words files files' image
 
--- the machine on the image ran without arguments for m instructions and stands so
-abbrev pub RanFor : ℕ → Plain → Option stops.the_data → (input input' out out' err err' : Option (List ℕ)) → Type 0
-RanFor m image stopped input input' out out' err err' =
-    (core : Core) × (core.stopped ≡ stopped) × Advances m image.code (first_core image []) core input input' out out' err err'
-
--- what an outcome says of the machine on the image: it ended within the bound on instructions, or it runs at the bound, or
--- standard error failed in the instruction after m, which writes there. No other outcome comes from a run
-abbrev pub Ran : Outcome → Plain → (input input' out out' err err' : Option (List ℕ)) → Type 0
-Ran (outcomes.Ran end) image input input' out out' err err' =
-    (m : ℕ) × (m ≤ default_steps) × RanFor m image (Some (stops.Ended end)) input input' out out' err err'
-Ran outcomes.OutOfSteps image input input' out out' err err' = RanFor default_steps image None input input' out out' err err'
-Ran outcomes.ErrFault image input input' out out' err err' =
-    (m : ℕ) × (m < default_steps) × FailsAfter m 2 image.code (first_core image []) input input' out out' err err'
-Ran _ image input input' out out' err err' = ⊥
+-- what an outcome says of the machine on the image with these arguments: it ended within the bound on instructions, or runs
+-- at the bound, or an object failed in the instruction after m, which reaches it. No other outcome comes from a run
+abbrev pub Ran : Outcome → PlainImage → List (List ℕ) → (bound : ℕ) → (input input' out out' err err' : Option (List ℕ)) → Type 0
+Ran (outcomes.Ran end) image args bound input input' out out' err err' =
+    (m : ℕ) × (core : Core) × (m ≤ bound) × (core.stopped ≡ Some end)
+    × Advances m (program_of image) (first_core image args) core input input' out out' err err'
+Ran outcomes.OutOfSteps image args bound input input' out out' err err' =
+    (core : Core) × (core.stopped ≡ None) × Advances bound (program_of image) (first_core image args) core input input' out out' err err'
+Ran outcomes.InputFault image args bound input input' out out' err err' =
+    (m : ℕ) × (m < bound) × FailsAfter m 0 (program_of image) (first_core image args) input input' out out' err err'
+Ran outcomes.OutFault image args bound input input' out out' err err' =
+    (m : ℕ) × (m < bound) × FailsAfter m 1 (program_of image) (first_core image args) input input' out out' err err'
+Ran outcomes.ErrFault image args bound input input' out out' err err' =
+    (m : ℕ) × (m < bound) × FailsAfter m 2 (program_of image) (first_core image args) input input' out out' err err'
+Ran _ image args bound input input' out out' err err' = ⊥
 
 -- the outcomes that come once the machine has begun
 abbrev pub HasRun : Outcome → Type 0
 HasRun (outcomes.Ran end) = ⊤
 HasRun outcomes.OutOfSteps = ⊤
+HasRun outcomes.InputFault = ⊤
+HasRun outcomes.OutFault = ⊤
 HasRun outcomes.ErrFault = ⊤
 HasRun _ = ⊥
 
@@ -96,16 +103,35 @@ HasNotRun (outcomes.Refused refusal) = ⊤
 HasNotRun outcomes.NoMemory = ⊤
 HasNotRun _ = ⊥
 
--- the store failed: by a fetch of FILE, which changes nothing but that count, or by a keep of IMAGE, after which the bytes under
--- IMAGE alone are unknown
-abbrev pub StoreFailed : List (List ℕ) → Option Files → Option Files → (List ℕ → ℕ) → (List ℕ → ℕ) → (List ℕ → ℕ) → (List ℕ → ℕ) → Type 0
+-- the bytes under FILE are the form
+pub record IsForms (words : List (List ℕ)) (files : Option Files) : Type 0 where
+  pub file : List ℕ
+  pub image_name : List ℕ
+  pub command : IsRun words file image_name
+  pub source : List ℕ
+  pub fetched : Holds files file source
+  pub form : Form
+  pub form_ok : IsForm form
+  pub is_form : IsTextOf source form
+
+-- the store failed: by a fetch of FILE, which changes nothing but that count, or by a keep of IMAGE for a source that is the
+-- form, which changes that count, and after which the bytes under IMAGE alone are unknown
+abbrev pub StoreFailed : List (List ℕ) → Option Files → Option Files → (fetches fetches' keeps keeps' : List ℕ → ℕ) → Type 0
 StoreFailed words files files' fetches fetches' keeps keeps' =
-    (file name : List ℕ) → IsRun words file name →
-    ((files' ≡ files) × Rose (fetches file) (fetches' file)) ⊎ (KeepsOthers name files files' × Rose (keeps name) (keeps' name))
+    (file image_name : List ℕ) → IsRun words file image_name →
+    ((files' ≡ files) × Rose (fetches file) (fetches' file) × (keeps' image_name ≡ keeps image_name))
+    ⊎ (KeepsOthers image_name files files' × Rose (keeps image_name) (keeps' image_name) × (fetches' file ≡ fetches file) × IsForms words files)
+
+-- no count of the store but those of a fetch of FILE and a keep of IMAGE changes, and where the store didn't fail none
+pub record KeepsCounts (words : List (List ℕ)) (result : Outcome) (fetches fetches' keeps keeps' : List ℕ → ℕ) : Type 0 where
+  pub fetch_of : (name : List ℕ) → ((image_name : List ℕ) → IsRun words name image_name → ⊥) → fetches' name ≡ fetches name
+  pub keep_of : (name : List ℕ) → ((file : List ℕ) → IsRun words file name → ⊥) → keeps' name ≡ keeps name
+  pub no_failure : result ≢ outcomes.StoreFault → (name : List ℕ) → (fetches' name ≡ fetches name) × (keeps' name ≡ keeps name)
 
 -- the bytes under FILE are too many
 abbrev pub IsTooLong : List (List ℕ) → Option Files → Type 0
-IsTooLong words files = (file name source : List ℕ) × IsRun words file name × Holds files file source × (longest_source < length source)
+IsTooLong words files =
+    (file image_name source : List ℕ) × IsRun words file image_name × Holds files file source × (longest_source < length source)
 
 -- the refusal of a source that isn't the form
 abbrev pub not_this_form : Refusal
@@ -113,19 +139,26 @@ not_this_form = record { rule = rules.NotThisForm; place = record { line = 1; co
 
 -- a source is none of the forms
 abbrev pub IsNoForm : List ℕ → Type 0
-IsNoForm source = (form : Form) → IsForm form → Spells source form → ⊥
+IsNoForm source = (form : Form) → IsForm form → IsTextOf source form → ⊥
 
 -- the bytes under FILE are no form
 abbrev pub IsRefused : List (List ℕ) → Option Files → Type 0
-IsRefused words files = (file name source : List ℕ) × IsRun words file name × Holds files file source × (length source ≤ longest_source) × IsNoForm source
+IsRefused words files =
+    (file image_name source : List ℕ) × IsRun words file image_name × Holds files file source × (length source ≤ longest_source) × IsNoForm source
 
 -- a count that didn't rise
 abbrev pub StoodStill : ℕ → ℕ → Type 0
 StoodStill old new = Rose old new → ⊥
 
--- what comes where no count rises, of a store that tells its bytes: want of memory, or the one answer by the bytes under FILE
-pub record Answers (result : Outcome) (source : List ℕ) : Type 0 where
-  pub too_long : longest_source < length source → (result ≡ outcomes.TooLong) ⊎ (result ≡ outcomes.NoMemory)
-  pub refused : length source ≤ longest_source → IsNoForm source → (result ≡ outcomes.Refused not_this_form) ⊎ (result ≡ outcomes.NoMemory)
-  pub ran : (form : Form) (end : End) → IsForm form → Spells source form → (form_runs form 0).1 ≡ Ended end
-    → (result ≡ outcomes.Ran end) ⊎ (result ≡ outcomes.NoMemory)
+-- the one answer, or want of memory
+abbrev pub IsAnswer : Outcome → Outcome → Type 0
+IsAnswer result answer = (result ≡ answer) ⊎ (result ≡ outcomes.NoMemory)
+
+-- the answer by the bytes under FILE, of a store that tells them and doesn't fail to fetch them. Where no object fails, a
+-- form has run, and to its end, since the bound leaves room for all its instructions
+pub record Answers (result : Outcome) (source : List ℕ) (kept err_wrote : Type 0) : Type 0 where
+  pub too_long : longest_source < length source → IsAnswer result outcomes.TooLong
+  pub refused : length source ≤ longest_source → IsNoForm source → IsAnswer result (outcomes.Refused not_this_form)
+  pub accepted : (form : Form) → IsForm form → IsTextOf source form → kept → err_wrote → HasRun result ⊎ (result ≡ outcomes.NoMemory)
+  pub ended : (form : Form) (end : End) → IsForm form → IsTextOf source form → (form_runs form 0).1 ≡ Ended end → kept → err_wrote
+      → IsAnswer result (outcomes.Ran end)

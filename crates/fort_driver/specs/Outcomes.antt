@@ -31,8 +31,8 @@ status_of outcomes.NoMemory = 125
 status_of (outcomes.Undefined kind place) = 126
 
 -- a line behind the program's name
-abbrev pub line : List ℕ → List ℕ
-line text = codes "fortc: " ++ (text ++ 10 ∷ [])
+abbrev pub fault_line_of : List ℕ → List ℕ
+fault_line_of text = codes "fortc: " ++ (text ++ 10 ∷ [])
 
 -- `LINE:COLUMN`
 abbrev pub place_text : Place → List ℕ
@@ -42,13 +42,13 @@ place_text place = decimal place.line ++ (codes ":" ++ decimal place.col)
 abbrev pub fault_text : Outcome → List ℕ
 fault_text outcomes.Done = []
 fault_text (outcomes.Ran end) = []
-fault_text outcomes.Usage = line (codes "usage")
-fault_text outcomes.StoreFault = line (codes "store fault")
-fault_text outcomes.InputFault = line (codes "input fault")
-fault_text outcomes.OutFault = line (codes "output fault")
-fault_text outcomes.ErrFault = line (codes "error output fault")
-fault_text outcomes.TooLong = line (codes "too long")
-fault_text (outcomes.Refused refusal) = line (place_text refusal.place ++ (codes ": refused: " ++ rule_name refusal.rule))
-fault_text outcomes.OutOfSteps = line (codes "out of steps")
-fault_text outcomes.NoMemory = line (codes "no memory")
-fault_text (outcomes.Undefined kind place) = line (codes "undefined " ++ (kind_name kind ++ (codes " at " ++ place_text place)))
+fault_text outcomes.Usage = fault_line_of (codes "usage")
+fault_text outcomes.StoreFault = fault_line_of (codes "store fault")
+fault_text outcomes.InputFault = fault_line_of (codes "input fault")
+fault_text outcomes.OutFault = fault_line_of (codes "output fault")
+fault_text outcomes.ErrFault = fault_line_of (codes "error output fault")
+fault_text outcomes.TooLong = fault_line_of (codes "too long")
+fault_text (outcomes.Refused refusal) = fault_line_of (place_text refusal.place ++ (codes ": refused: " ++ rule_name refusal.rule))
+fault_text outcomes.OutOfSteps = fault_line_of (codes "out of steps")
+fault_text outcomes.NoMemory = fault_line_of (codes "no memory")
+fault_text (outcomes.Undefined kind place) = fault_line_of (codes "undefined " ++ (kind_name kind ++ (codes " at " ++ place_text place)))

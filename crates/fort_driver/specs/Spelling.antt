@@ -1,9 +1,9 @@
 -- The bytes of an image. This project's own.
-use Rattle.std.specs.Prelude.{◌≡◌, ℕ, List, [], ◌++◌, length, codes}
+use Rattle.std.specs.Prelude.{◌≡◌, ℕ, List, ◌++◌, length, codes}
 use Rattle.std.specs.List.{flat_map}
 use Rattle.std.specs.Int.{to_le_bytes, w32}
 use Rattle.bm_isa.specs.Encoding.{instruction_bytes}
-use Rattle.byte_machine.specs.Images.{Plain, IsImage}
+use Rattle.byte_machine.specs.Images.{PlainImage, IsImage}
 use Rattle.byte_machine.specs.declared.images.FnRec.{FnRec}
 
 -- a number in four bytes, little-endian
@@ -15,15 +15,15 @@ abbrev pub record_bytes : FnRec → List ℕ
 record_bytes f = word f.first ++ (word f.params ++ (word f.regs ++ (word f.weight ++ word f.frame)))
 
 -- the header: the magic bytes, version 1, the counts of functions, instructions and data bytes, the entry, and a spare word
-abbrev pub header_bytes : Plain → List ℕ
+abbrev pub header_bytes : PlainImage → List ℕ
 header_bytes image =
     codes "FC3IMAGE" ++ (word 1 ++ (word (length image.functions) ++ (word (length image.code) ++ (word (length image.bytes) ++ (word image.entry ++ word 0)))))
 
-unfoldable pub image_bytes : Plain → List ℕ
+unfoldable pub image_bytes : PlainImage → List ℕ
 image_bytes image =
     header_bytes image ++ (flat_map record_bytes image.functions ++ (flat_map instruction_bytes image.code ++ image.bytes))
 
 -- the bytes are the spelling of the image
-pub record SpellsImage (bytes : List ℕ) (image : Plain) : Type 0 where
+pub record SpellsImage (bytes : List ℕ) (image : PlainImage) : Type 0 where
   pub image_ok : IsImage image
   pub spelled : bytes ≡ image_bytes image

@@ -1,7 +1,8 @@
 -- Each arm performs the instruction that the machine stands at.
 use Rattle.std.proofs.Common.{arith, refl, ◌≡◌, ◌∙◌, ap, slice_index_or, None, Some}
 use Rattle.std.proofs.lemmas.Bool.{ltb-true, eqb-true}
-use Rattle.byte_machine.specs.Images.{fits, function_at, memset_chk}
+use Rattle.byte_machine.specs.Images.{fits, memset_chk}
+use Rattle.byte_machine.specs.View.{end_of_stop}
 use Rattle.bm_isa.specs.declared.instructions.Instr.TheVariants as instr
 use Rattle.byte_machine.proofs.Steps.{built, fits_at, goes_on_at, at_is, read_as, register_in, register_read, wrote_nothing, first_test, second_test}
 use Rattle.byte_machine.proofs.machine.Machine.advance.Goals as goal
@@ -9,7 +10,7 @@ use Rattle.byte_machine.proofs.machine.Machine.advance.Goals as goal
 pub index_mut-requires : goal.index_mut-requires
 index_mut-requires g c =
     let m = c.self.inside in
-    register_in m c.in-Const.to c.self.invariant (fits_at m (instr.Const c.in-Const.to c.in-Const.number) c.self.invariant (read_as m.code.items m.at c.index.result.now (instr.Const c.in-Const.to c.in-Const.number) c.index.ensures c.in-Const.is))
+    register_in m c.in-Const.to c.self.invariant (first_test _ _ (fits_at m (instr.Const c.in-Const.to c.in-Const.number) c.self.invariant (read_as m.code.items m.at c.index.result.now (instr.Const c.in-Const.to c.in-Const.number) c.index.ensures c.in-Const.is)))
 
 pub invariant_of-self : goal.invariant_of-self
 invariant_of-self g c =
@@ -101,33 +102,37 @@ pub unreachable-requires : goal.unreachable-requires
 unreachable-requires g c =
     let m = c.self.inside in
     let fit = c.self.invariant.code.fit m.function m.at c.index.result.now c.self.invariant.function c.self.invariant.behind c.self.invariant.before in
-    built (function_at m.functions.items m.function) c.index.result.now (ap (fits (function_at m.functions.items m.function)) c.index.ensures ∙ fit)
+    built m.functions.items m.code.items m.function c.index.result.now (ap (fits m.functions.items m.code.items m.function) c.index.ensures ∙ fit)
     c.in_default.not-Const c.in_default.not-Slot c.in_default.not-Argument c.in_default.not-Return c.in_default.not-Host
 
 pub returns-in-Const-clause-performed : goal.returns-in-Const-clause-performed
 returns-in-Const-clause-performed g c =
     let m = c.self.inside in
-    let running : m.stopped ≡ None = ap (λ x. x.core.stopped) c.self.view_is ∙ c.requires in
-    rw (← c.self.view_is) (wrote_nothing m _ (instr.Const c.in-Const.to c.in-Const.number) c.self.invariant running (read_as m.code.items m.at c.index.result.now (instr.Const c.in-Const.to c.in-Const.number) c.index.ensures c.in-Const.is) (λ input. refl) _, running)
+    let stop : m.stopped ≡ None = ap (λ x. x.stop) c.self.view_is ∙ c.requires in
+    let running : end_of_stop m.stopped ≡ None = ap end_of_stop stop in
+    rw (← c.self.view_is) (wrote_nothing m _ (instr.Const c.in-Const.to c.in-Const.number) c.self.invariant running (read_as m.code.items m.at c.index.result.now (instr.Const c.in-Const.to c.in-Const.number) c.index.ensures c.in-Const.is) (λ input. refl) _, running, stop)
 
 pub returns-in-Slot-clause-performed : goal.returns-in-Slot-clause-performed
 returns-in-Slot-clause-performed g c =
     let m = c.self.inside in
-    let running : m.stopped ≡ None = ap (λ x. x.core.stopped) c.self.view_is ∙ c.requires in
-    rw (← c.self.view_is, c.from.ensures) (wrote_nothing m _ (instr.Slot c.in-Slot.to c.in-Slot.offset) c.self.invariant running (read_as m.code.items m.at c.index.result.now (instr.Slot c.in-Slot.to c.in-Slot.offset) c.index.ensures c.in-Slot.is) (λ input. refl) _, running)
+    let stop : m.stopped ≡ None = ap (λ x. x.stop) c.self.view_is ∙ c.requires in
+    let running : end_of_stop m.stopped ≡ None = ap end_of_stop stop in
+    rw (← c.self.view_is, c.from.ensures) (wrote_nothing m _ (instr.Slot c.in-Slot.to c.in-Slot.offset) c.self.invariant running (read_as m.code.items m.at c.index.result.now (instr.Slot c.in-Slot.to c.in-Slot.offset) c.index.ensures c.in-Slot.is) (λ input. refl) _, running, stop)
 
 pub returns-in-Argument-clause-performed : goal.returns-in-Argument-clause-performed
 returns-in-Argument-clause-performed g c =
     let m = c.self.inside in
-    let running : m.stopped ≡ None = ap (λ x. x.core.stopped) c.self.view_is ∙ c.requires in
+    let stop : m.stopped ≡ None = ap (λ x. x.stop) c.self.view_is ∙ c.requires in
+    let running : end_of_stop m.stopped ≡ None = ap end_of_stop stop in
     let read : c.index-in-Argument.result.now ≡ slice_index_or m.registers.items c.in-Argument.from 0 =
     register_read m c.in-Argument.from c.index-in-Argument.result.now c.index-in-Argument.ensures (register_in m c.in-Argument.from c.self.invariant (first_test _ _ (fits_at m (instr.Argument c.in-Argument.from c.in-Argument.slot) c.self.invariant (read_as m.code.items m.at c.index.result.now (instr.Argument c.in-Argument.from c.in-Argument.slot) c.index.ensures c.in-Argument.is)))) in
-    rw (← c.self.view_is, read) (wrote_nothing m _ (instr.Argument c.in-Argument.from c.in-Argument.slot) c.self.invariant running (read_as m.code.items m.at c.index.result.now (instr.Argument c.in-Argument.from c.in-Argument.slot) c.index.ensures c.in-Argument.is) (λ input. refl) _, running)
+    rw (← c.self.view_is, read) (wrote_nothing m _ (instr.Argument c.in-Argument.from c.in-Argument.slot) c.self.invariant running (read_as m.code.items m.at c.index.result.now (instr.Argument c.in-Argument.from c.in-Argument.slot) c.index.ensures c.in-Argument.is) (λ input. refl) _, running, stop)
 
 pub returns-in-Return-clause-performed : goal.returns-in-Return-clause-performed
 returns-in-Return-clause-performed g c =
     let m = c.self.inside in
-    let running : m.stopped ≡ None = ap (λ x. x.core.stopped) c.self.view_is ∙ c.requires in
+    let stop : m.stopped ≡ None = ap (λ x. x.stop) c.self.view_is ∙ c.requires in
+    let running : end_of_stop m.stopped ≡ None = ap end_of_stop stop in
     let read : c.index-in-Return.result.now ≡ slice_index_or m.registers.items c.in-Return.from 0 =
     register_read m c.in-Return.from c.index-in-Return.result.now c.index-in-Return.ensures (register_in m c.in-Return.from c.self.invariant (fits_at m (instr.Return c.in-Return.from) c.self.invariant (read_as m.code.items m.at c.index.result.now (instr.Return c.in-Return.from) c.index.ensures c.in-Return.is))) in
-    rw (← c.self.view_is, read) (wrote_nothing m _ (instr.Return c.in-Return.from) c.self.invariant running (read_as m.code.items m.at c.index.result.now (instr.Return c.in-Return.from) c.index.ensures c.in-Return.is) (λ input. refl) _, refl)
+    rw (← c.self.view_is, read) (wrote_nothing m _ (instr.Return c.in-Return.from) c.self.invariant running (read_as m.code.items m.at c.index.result.now (instr.Return c.in-Return.from) c.index.ensures c.in-Return.is) (λ input. refl) _, refl, refl)
