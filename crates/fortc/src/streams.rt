@@ -3,8 +3,8 @@
 //! The types stand over any reader and writer of std. A sink tells what its writer tells, which is nothing at a
 //! standard stream. A source tells nothing.
 
-ghost use Rattle.std.specs.Prelude.{◌≡◌, ◌+◌, None, min, is_err, if◌then◌else◌};
-ghost use Rattle.fc_base.specs.Outside.{last_count};
+ghost use Rattle.std.specs.Prelude.{◌≡◌, None, min, is_err, if◌then◌else◌};
+ghost use Rattle.fc_base.specs.Outside.{last_count, one_more};
 
 use crate::transfer::{read_some, write_whole};
 use fc_base::{Failed, Sink, Source};
@@ -13,7 +13,7 @@ use std::io::{Read, Write};
 /// Counts a failure, up to the last value of a count, and hands the result on.
 fn counted<T>(answer: Result<T, Failed>, faults: &mut u64) -> Result<T, Failed>
     ensures answer { result ≡ answer }
-    ensures counted { faults.new ≡ (if is_err result then min (faults.old + 1) last_count else faults.old) }
+    ensures counted { faults.new ≡ (if is_err result then one_more faults.old else faults.old) }
 {
     if answer.is_err() {
         *faults = faults.saturating_add(1);
