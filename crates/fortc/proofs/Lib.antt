@@ -1,0 +1,2 @@
+pub mod FailureCounts
+pub mod KnownBytes
