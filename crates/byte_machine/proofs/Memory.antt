@@ -1,5 +1,5 @@
 -- The first memory, from a number of zero bytes that is not written out.
-use Rattle.std.proofs.Common.{◌≡◌, ℕ, ◌≤◌, List, ◌++◌, length, take, drop, replicate, ap, ◌∙◌, sym, arith}
+use Rattle.std.proofs.Common.{◌≡◌, ℕ, ◌≤◌, List, ◌++◌, length, take, drop, replicate, ap, ◌∙◌, arith}
 use Rattle.std.proofs.lemmas.List.{take-append-le, take_all}
 use Rattle.byte_machine.specs.Images.{PlainImage}
 use Rattle.byte_machine.specs.State.{memory_size, first_valid, data_start, put}

@@ -1,5 +1,5 @@
 -- What is opened on an image is runnable.
-use Rattle.std.proofs.Common.{◌≡◌, ℕ, ◌+◌, ◌<◌, ◌≤◌, List, length, Bool, true, false, nat_lt, cond, vec_len, refl, sym, ◌∙◌, ap, arith}
+use Rattle.std.proofs.Common.{◌≡◌, ℕ, ◌+◌, ◌<◌, List, length, Bool, true, false, nat_lt, cond, vec_len, refl, ◌∙◌, ap, arith}
 use Rattle.bm_isa.specs.declared.instructions.Instr.{Instr}
 use Rattle.byte_machine.specs.declared.images.FnRec.{FnRec}
 use Rattle.byte_machine.specs.declared.machine.Machine.TheInside.{Inside}

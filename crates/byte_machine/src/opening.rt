@@ -79,7 +79,7 @@ fn room(word: &[u8]) -> usize
     (word.len() + 2).div_ceil(16) * 16
 }
 
-/// How many bytes memory has.
+/// How many bytes memory has. No proof may write out as many zeros, so the number comes from a call.
 fn size() -> usize
     ensures { result ≡ memory_size }
 {

@@ -1,7 +1,7 @@
 -- Each address in its turn.
-use Rattle.std.proofs.Common.{◌≡◌, ◌+◌, ◌≤◌, ◌++◌, arith, ap, ◌∙◌}
+use Rattle.std.proofs.Common.{◌+◌, ◌++◌, arith, ap, ◌∙◌}
 use Rattle.std.specs.Int.{to_le_bytes, w64}
-use Rattle.byte_machine.specs.Opening.{argument_words, string_room, argv_address}
+use Rattle.byte_machine.specs.Opening.{argument_words, string_room}
 use Rattle.byte_machine.proofs.Arguments.{short_argument, rooms_more, argv_low, addresses_more, addresses_done, section_closed}
 use Rattle.byte_machine.proofs.opening.argument_section.Goals as goal
 

@@ -1,6 +1,6 @@
 -- The rooms of the strings, one after the other.
-use Rattle.std.proofs.Common.{◌≡◌, ◌≤◌, arith}
-use Rattle.byte_machine.specs.Opening.{argument_words, string_room, argv_address}
+use Rattle.std.proofs.Common.{arith}
+use Rattle.byte_machine.specs.Opening.{argument_words, string_room}
 use Rattle.byte_machine.proofs.Arguments.{short_argument, rooms_more, argv_low}
 use Rattle.byte_machine.proofs.opening.argv_address.Goals as goal
 

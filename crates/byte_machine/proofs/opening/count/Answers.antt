@@ -1,5 +1,5 @@
 -- There are few arguments.
-use Rattle.std.proofs.Common.{◌≤◌, length, arith}
+use Rattle.std.proofs.Common.{arith}
 use Rattle.byte_machine.proofs.Arguments.{few_arguments}
 use Rattle.byte_machine.proofs.opening.count.Goals as goal
 
