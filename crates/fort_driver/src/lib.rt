@@ -12,4 +12,6 @@ pub use outcomes::{Outcome, fault_line, status};
 pub use top::fort;
 
 #[cfg(test)]
+mod rows;
+#[cfg(test)]
 mod tests;
