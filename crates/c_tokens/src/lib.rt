@@ -1,8 +1,10 @@
 //! The tokens of a source (C11 6.4).
 #![tactic(auto)]
 
+mod pieces;
 mod puncts;
 mod tokens;
 
+pub use pieces::Piece;
 pub use puncts::{HeaderId, Punct};
 pub use tokens::{NumberKind, Token, TokenKind};

@@ -1,0 +1,4 @@
+//! A source cut into its tokens (C11 6.4).
+#![tactic(auto)]
+
+mod joined;
