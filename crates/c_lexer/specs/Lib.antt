@@ -1,3 +1,4 @@
 pub mod Places
 pub mod Longest
 pub mod Lexed
+pub mod Runs

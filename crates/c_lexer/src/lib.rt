@@ -1,4 +1,8 @@
 //! A source cut into its tokens (C11 6.4).
 #![tactic(auto)]
 
+mod bytes;
+mod escapes;
 mod joined;
+mod numbers;
+mod puncts;

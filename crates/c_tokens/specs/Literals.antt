@@ -27,14 +27,6 @@ shape close escapes escaped (b ∷ bs) =
 
 -- ---- escape sequences
 
--- how many bytes an escape sequence has behind its backslash, and its value, none where it is not allowed
-pub record Escape : Type 0 where
-  pub size : ℕ
-  pub value : Option ℕ
-
-abbrev pub escape_as : ℕ → Option ℕ → Escape
-escape_as size value = record { size = size; value = value }
-
 -- `\'`, `\"`, `\?`, `\\`, `\a`, `\b`, `\f`, `\n`, `\r`, `\t` and `\v`
 unfoldable pub simple_escape : ℕ → Option ℕ
 simple_escape b =
@@ -60,13 +52,14 @@ octal_digits bs = take_while (λ b. is_digit b 8) (take 3 bs)
 abbrev pub hexadecimal_digits : List ℕ → List ℕ
 hexadecimal_digits bs = take_while (λ b. is_digit b 16) bs
 
--- The escape sequence behind a backslash: one to three octal digits, x and hexadecimal digits, or one byte.
-unfoldable pub escape : List ℕ → Escape
-escape [] = escape_as 0 None
+-- The escape sequence behind a backslash: one to three octal digits, x and hexadecimal digits, or one byte. How many
+-- bytes it has there, and its value, none where it is not allowed.
+unfoldable pub escape : List ℕ → ℕ × Option ℕ
+escape [] = (0, None)
 escape (b ∷ bs) =
-    if is_digit b 8 then escape_as (length (octal_digits (b ∷ bs))) (byte_value 8 (octal_digits (b ∷ bs)))
-    else (if b == 120 then escape_as (suc (length (hexadecimal_digits bs))) (byte_value 16 (hexadecimal_digits bs))
-    else escape_as 1 (simple_escape b))
+    if is_digit b 8 then (length (octal_digits (b ∷ bs)), byte_value 8 (octal_digits (b ∷ bs)))
+    else (if b == 120 then (suc (length (hexadecimal_digits bs)), byte_value 16 (hexadecimal_digits bs))
+    else (1, simple_escape b))
 
 -- ---- the characters between the quotes
 
@@ -83,7 +76,7 @@ unfoldable pub characters : ℕ → ℕ → List ℕ → List Character
 characters offset left [] = []
 characters offset (suc left) (b ∷ bs) = characters (suc offset) left bs
 characters offset zero (b ∷ bs) =
-    if b == 92 then character offset (escape bs).value ∷ characters (suc offset) (escape bs).size bs
+    if b == 92 then character offset (escape bs).1 ∷ characters (suc offset) (escape bs).0 bs
     else character offset (Some b) ∷ characters (suc offset) 0 bs
 
 abbrev pub valued : ℕ → Option ℕ → Result (List ℕ) ℕ → Result (List ℕ) ℕ

@@ -29,34 +29,26 @@ is_l b = b == 108 || b == 76
 abbrev pub is_ll : ℕ → ℕ → Bool
 is_ll a b = is_l a && a == b
 
--- what a suffix says: whether it has u, and how many l
-pub record Suffix : Type 0 where
-  pub unsigned : Bool
-  pub longs : ℕ
-
-abbrev pub suffix : Bool → ℕ → Suffix
-suffix unsigned longs = record { unsigned = unsigned; longs = longs }
-
--- C11's suffixes: none, u, l, ul, lu, ll, ull and llu
-unfoldable pub suffix_of : List ℕ → Option Suffix
-suffix_of [] = Some (suffix false 0)
-suffix_of (a ∷ []) = if is_u a then Some (suffix true 0) else (if is_l a then Some (suffix false 1) else None)
+-- C11's suffixes (none, u, l, ul, lu, ll, ull and llu): whether there is a u, and how many l
+unfoldable pub suffix_of : List ℕ → Option (Bool × ℕ)
+suffix_of [] = Some (false, 0)
+suffix_of (a ∷ []) = if is_u a then Some (true, 0) else (if is_l a then Some (false, 1) else None)
 suffix_of (a ∷ b ∷ []) =
-    if is_u a && is_l b then Some (suffix true 1)
-    else (if is_l a && is_u b then Some (suffix true 1)
-    else (if is_ll a b then Some (suffix false 2)
+    if is_u a && is_l b then Some (true, 1)
+    else (if is_l a && is_u b then Some (true, 1)
+    else (if is_ll a b then Some (false, 2)
     else None))
 suffix_of (a ∷ b ∷ c ∷ []) =
-    if is_u a && is_ll b c then Some (suffix true 2)
-    else (if is_ll a b && is_u c then Some (suffix true 2)
+    if is_u a && is_ll b c then Some (true, 2)
+    else (if is_ll a b && is_u c then Some (true, 2)
     else None)
 suffix_of (a ∷ b ∷ c ∷ d ∷ ds) = None
 
-abbrev pub number_kind : ℕ → Suffix → NumberKind
-number_kind base s = record { decimal = base == 10; unsigned = s.unsigned; longs = s.longs }
+abbrev pub number_kind : ℕ → Bool × ℕ → NumberKind
+number_kind base s = record { decimal = base == 10; unsigned = s.0; longs = s.1 }
 
 -- Digits in a base and a suffix. A literal has a digit, and its value fits 64 bits.
-abbrev pub integer : ℕ → List ℕ → Option Suffix → Piece
+abbrev pub integer : ℕ → List ℕ → Option (Bool × ℕ) → Piece
 integer base digits None = Refused LeftOutLiteral 0
 integer base digits (Some s) =
     if is_empty digits then Refused LeftOutLiteral 0
