@@ -1,3 +1,4 @@
 pub mod RunLemmas
 pub mod DigitLemmas
 pub mod Longest
+pub mod LiteralLemmas

@@ -1,11 +1,12 @@
 -- What the scanning functions give.
-use Rattle.std.specs.Prelude.{ℕ, suc, ◌==◌, ◌&&◌, ◌^◌, not, nat_lt, Bool, true, false, if◌then◌else◌, List, [], ◌∷◌, Option, Some, None, option_map}
+use Rattle.std.specs.Prelude.{ℕ, suc, ◌==◌, ◌&&◌, ◌^◌, not, nat_lt, Bool, true, false, if◌then◌else◌, List, [], ◌∷◌, take, Option, Some, None, option_map}
 use Rattle.std.specs.Char.{is_digit}
 use Rattle.c_tokens.specs.Bytes.{goes_on}
 use Rattle.c_tokens.specs.Numbers.{in_number}
 use Rattle.c_tokens.specs.Literals.{Shape, closed, unclosed, escape}
 use Rattle.c_tokens.specs.declared.puncts.Punct.{Punct}
 use Rattle.c_tokens.specs.Puncts.{one_byte, two_bytes, three_bytes}
+use Rattle.c_tokens.specs.declared.pieces.Piece.{Piece}
 use Rattle.c_lexer.specs.declared.bytes.Class.{Class}
 use Rattle.c_lexer.specs.declared.bytes.Class.TheVariants.{Word, Digit}
 
@@ -75,3 +76,8 @@ first_punct bs = or_else (with_length 3 (first_three bs)) (or_else (with_length 
 abbrev pub first_character : List ℕ → ℕ × Option ℕ
 first_character [] = (0, None)
 first_character (b ∷ bs) = if b == 92 then (suc (escape bs).0, (escape bs).1) else (1, Some b)
+
+-- a literal behind its opening byte: how many bytes it has with that byte, and what it is
+abbrev pub literal_front : ℕ → Bool → (Shape → List ℕ → Piece) → List ℕ → ℕ × Piece
+literal_front close escapes of bs =
+    (suc (literal_end close escapes false bs).0, of (literal_end close escapes false bs).1 (take (literal_end close escapes false bs).0 bs))

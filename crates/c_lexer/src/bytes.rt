@@ -1,6 +1,6 @@
 //! Classes of bytes, and how far they go.
 
-ghost use Rattle.std.specs.Prelude.{◌≡◌, ◌≤◌, length, not, false};
+ghost use Rattle.std.specs.Prelude.{◌≡◌, ◌≤◌, length, drop, not, false, IsTrue};
 ghost use Rattle.std.specs.List.{prefix_len};
 ghost use Rattle.std.specs.Char.{digit_value};
 ghost use Rattle.c_tokens.specs.Bytes.{is_space, begins_name, goes_on, is_quote, is_sign, is_exponent, is_newline};
@@ -123,6 +123,7 @@ pub fn number_length(mut before: u8, bytes: &[u8]) -> usize
 pub fn literal_length(close: u8, escapes: bool, bytes: &[u8]) -> (usize, bool)
     ensures value { (result.0, shape_of result.1) ≡ literal_end close escapes false bytes.now }
     ensures within { result.0 ≤ length bytes.now }
+    ensures closed { IsTrue result.1 → 1 ≤ result.0 }
 {
     let mut end = 0;
     let mut escaped = false;
@@ -154,4 +155,12 @@ pub fn comment_length(bytes: &[u8]) -> (usize, bool)
         star = b == b'*';
     }
     (end, false)
+}
+
+/// The bytes from this one on.
+pub fn rest_from(bytes: &[u8], at: usize) -> &[u8]
+    requires { at ≤ length bytes.now }
+    ensures { result.now ≡ drop at bytes.now }
+{
+    &bytes[at..]
 }

@@ -4,5 +4,6 @@
 mod bytes;
 mod escapes;
 mod joined;
+mod literals;
 mod numbers;
 mod puncts;
