@@ -2,3 +2,4 @@ pub mod RunLemmas
 pub mod DigitLemmas
 pub mod Longest
 pub mod LiteralLemmas
+pub mod FrontLemmas

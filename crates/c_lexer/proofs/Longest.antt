@@ -9,6 +9,7 @@ use Rattle.c_tokens.specs.Numbers.{in_number, all_in_number}
 use Rattle.c_tokens.specs.Literals.{Shape, closed, unclosed, shape}
 use Rattle.c_tokens.specs.Pieces.{alone, comment}
 use Rattle.c_lexer.specs.Longest.{further, longest, IsLongest, TakesNone, LongestFront}
+use Rattle.c_lexer.specs.Fronts.{comment_piece}
 use Rattle.c_lexer.specs.Runs.{number_len, one_more, literal_end, comment_end}
 
 -- ---- the longest front is what its name says
@@ -171,10 +172,6 @@ longest_literal close escapes escaped of (b ∷ bs) =
     literal_step close escapes escaped of b bs (b == 10) (b == close && not escaped) refl refl (longest_literal close escapes (escapes && b == 92 && not escaped) (λ s r. of s (b ∷ r)) bs)
 
 -- ---- comments
-
-abbrev pub comment_piece : Shape → Piece
-comment_piece closed = Space
-comment_piece unclosed = Refused OpenComment 0
 
 abbrev pub commented : ℕ × Shape → ℕ × Piece
 commented r = (r.0, comment_piece r.1)

@@ -2,3 +2,4 @@ pub mod Places
 pub mod Longest
 pub mod Lexed
 pub mod Runs
+pub mod Fronts

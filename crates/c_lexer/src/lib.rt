@@ -6,4 +6,5 @@ mod escapes;
 mod joined;
 mod literals;
 mod numbers;
+mod pieces;
 mod puncts;
