@@ -3,3 +3,4 @@ pub mod Longest
 pub mod Lexed
 pub mod Runs
 pub mod Fronts
+pub mod Reading

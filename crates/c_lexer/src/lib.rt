@@ -8,3 +8,6 @@ mod literals;
 mod numbers;
 mod pieces;
 mod puncts;
+mod reader;
+
+pub use reader::tokens;
