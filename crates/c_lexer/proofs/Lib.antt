@@ -3,3 +3,4 @@ pub mod DigitLemmas
 pub mod Longest
 pub mod LiteralLemmas
 pub mod FrontLemmas
+pub mod Cutting
