@@ -3,3 +3,4 @@ pub mod Puncts
 pub mod Numbers
 pub mod Literals
 pub mod Pieces
+pub mod Spelling

@@ -3,6 +3,7 @@
 
 mod pieces;
 mod puncts;
+mod spellings;
 mod tokens;
 
 pub use pieces::Piece;

@@ -1,0 +1,3 @@
+pub mod OctalLemmas
+pub mod LiteralSpelling
+pub mod NumberSpelling

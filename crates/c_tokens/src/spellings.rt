@@ -1,0 +1,101 @@
+//! How a token is spelled.
+
+ghost use Rattle.std.specs.Prelude.{◌≡◌, ◌+◌, ◌++◌, ◌∷◌, ◌<◌, ◌≤◌, [], map, IfOk, OnOk};
+ghost use Rattle.std.specs.List.{flat_map};
+ghost use Rattle.std.specs.Int.Digits.{digits_of};
+ghost use Rattle.c_tokens.specs.Pieces.{IsLexedKind, Spells};
+ghost use Rattle.c_tokens.specs.Puncts.{include_line};
+ghost use Rattle.c_tokens.specs.Spelling.{octal_digit, digits_text, suffix_text, number_text, escaped, quoted, spelling_of};
+
+use crate::puncts::HeaderId;
+use crate::tokens::{NumberKind, Token, TokenKind};
+use fc_base::{NoMemory, Text};
+use itoa::Buffer;
+use std::alloc::{AllocError, Global};
+
+/// The octal digits of the value, none for 0.
+fn octal_digits(alloc: Global, mut value: u64) -> Result<Vec<u8>, AllocError>
+    ensures { IfOk result (λ v. v.items ≡ map octal_digit (digits_of 8 value)) }
+{
+    let mut digits = Vec::new(alloc);
+    while value > 0 {
+        digits.push(b'0' + (value % 8) as u8)?;
+        value /= 8;
+    }
+    digits.reverse();
+    Ok(digits)
+}
+
+/// Decimal digits, or octal ones behind a zero.
+fn push_digits(alloc: Global, out: &mut Vec<u8>, value: u64, decimal: bool) -> Result<(), AllocError>
+    ensures { OnOk result (out.new.items ≡ out.old.items ++ digits_text decimal value) }
+{
+    if decimal {
+        let mut buffer = Buffer::new();
+        out.extend_from_slice(buffer.format(value).as_bytes())
+    } else {
+        out.push(b'0')?;
+        let digits = octal_digits(alloc, value)?;
+        out.extend_from_slice(&digits)
+    }
+}
+
+fn push_suffix(out: &mut Vec<u8>, kind: NumberKind) -> Result<(), AllocError>
+    requires { kind.longs ≤ 2 }
+    ensures { OnOk result (out.new.items ≡ out.old.items ++ suffix_text kind.unsigned kind.longs) }
+{
+    if kind.unsigned {
+        out.push(b'u')?;
+    }
+    out.extend_from_slice(&b"ll"[..usize::from(kind.longs)])
+}
+
+fn number(alloc: Global, value: u64, kind: NumberKind) -> Result<Vec<u8>, AllocError>
+    requires { kind.longs ≤ 2 }
+    ensures { IfOk result (λ v. v.items ≡ number_text value kind) }
+{
+    let mut out = Vec::new(alloc);
+    push_digits(alloc, &mut out, value, kind.decimal)?;
+    push_suffix(&mut out, kind)?;
+    Ok(out)
+}
+
+/// What stands for the byte between quotes.
+#[tactic(auto, unfolding(crate::specs::Spelling::escaped))]
+fn push_escaped(out: &mut Vec<u8>, b: u8) -> Result<(), AllocError>
+    ensures { OnOk result (out.new.items ≡ out.old.items ++ escaped b) }
+{
+    match b {
+        b'"' | b'\'' | b'\\' => out.extend_from_slice(&[b'\\', b]),
+        b' '..=b'~' => out.extend_from_slice(&[b]),
+        _ => out.extend_from_slice(&[b'\\', b'0' + b / 64, b'0' + b / 8 % 8, b'0' + b % 8]),
+    }
+}
+
+fn quoted(alloc: Global, quote: u8, bytes: &[u8]) -> Result<Vec<u8>, AllocError>
+    ensures { IfOk result (λ v. v.items ≡ quoted quote bytes.now) }
+{
+    let mut out = Vec::new(alloc);
+    out.push(quote)?;
+    for b in bytes {
+        push_escaped(&mut out, *b)?;
+    }
+    out.push(quote)?;
+    Ok(out)
+}
+
+fn between(alloc: Global, before: &[u8], text: &[u8], after: u8) -> Result<Vec<u8>, AllocError>
+    ensures { IfOk result (λ v. v.items ≡ before.now ++ text.now ++ after ∷ []) }
+{
+    let mut out = Vec::from_slice(alloc, before)?;
+    out.extend_from_slice(text)?;
+    out.push(after)?;
+    Ok(out)
+}
+
+/// The line that includes the header.
+fn include_line(alloc: Global, header: HeaderId) -> Result<Vec<u8>, AllocError>
+    ensures { IfOk result (λ v. v.items ≡ include_line header) }
+{
+    between(alloc, b"#include <", header.name().as_bytes(), b'>')
+}
