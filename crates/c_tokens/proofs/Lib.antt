@@ -1,3 +1,5 @@
 pub mod OctalLemmas
 pub mod LiteralSpelling
 pub mod NumberSpelling
+pub mod WordSpelling
+pub mod Spelled

@@ -8,4 +8,5 @@ mod tokens;
 
 pub use pieces::Piece;
 pub use puncts::{HeaderId, Punct};
+pub use spellings::spelling;
 pub use tokens::{NumberKind, Token, TokenKind};

@@ -99,3 +99,40 @@ fn include_line(alloc: Global, header: HeaderId) -> Result<Vec<u8>, AllocError>
 {
     between(alloc, b"#include <", header.name().as_bytes(), b'>')
 }
+
+fn string(alloc: Global, bytes: &[u8]) -> Result<Vec<u8>, AllocError>
+    ensures { IfOk result (λ v. Spells v.items (TokenKind.Str bytes.now)) }
+{
+    quoted(alloc, b'"', bytes)
+}
+
+fn constant(alloc: Global, b: u8) -> Result<Vec<u8>, AllocError>
+    ensures { IfOk result (λ v. Spells v.items (TokenKind.CharConst b)) }
+{
+    quoted(alloc, b'\'', &[b])
+}
+
+fn spelling_bytes(alloc: Global, kind: &TokenKind) -> Result<Vec<u8>, AllocError>
+    requires { IsLexedKind kind.now }
+    ensures { IfOk result (λ v. Spells v.items kind.now) }
+{
+    match kind {
+        TokenKind::Name(name) => Vec::from_slice(alloc, name.bytes()),
+        TokenKind::Number { value, kind } => number(alloc, *value, *kind),
+        TokenKind::CharConst(b) => constant(alloc, *b),
+        TokenKind::Str(bytes) => string(alloc, bytes.bytes()),
+        TokenKind::Punct(punct) => Vec::from_slice(alloc, punct.spelling().as_bytes()),
+        TokenKind::HeaderName(name) => between(alloc, b"<", name.bytes(), b'>'),
+        TokenKind::Header(header) => include_line(alloc, *header),
+    }
+}
+
+/// A spelling of the token, which is read as the same kind where the token stands. An inclusion is spelled as its
+/// line.
+pub fn spelling(alloc: Global, token: &Token) -> Result<Text, NoMemory>
+    requires { IsLexedKind token.now.kind }
+    ensures { IfOk result (λ text. Spells text token.now.kind) }
+{
+    let bytes = spelling_bytes(alloc, &token.kind)?;
+    Text::from_bytes(alloc, &bytes)
+}
