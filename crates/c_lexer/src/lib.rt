@@ -11,3 +11,6 @@ mod puncts;
 mod reader;
 
 pub use reader::tokens;
+
+#[cfg(test)]
+mod tests;
