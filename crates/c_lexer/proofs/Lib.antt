@@ -4,3 +4,4 @@ pub mod Longest
 pub mod LiteralLemmas
 pub mod FrontLemmas
 pub mod Cutting
+pub mod LawLemmas

@@ -4,3 +4,4 @@ pub mod Lexed
 pub mod Runs
 pub mod Fronts
 pub mod Reading
+pub mod Respelled

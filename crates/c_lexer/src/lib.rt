@@ -4,12 +4,14 @@
 mod bytes;
 mod escapes;
 mod joined;
+mod laws;
 mod literals;
 mod numbers;
 mod pieces;
 mod puncts;
 mod reader;
 
+pub use laws::{longest_fronts, readings_of_spellings};
 pub use reader::tokens;
 
 #[cfg(test)]

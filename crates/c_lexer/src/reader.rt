@@ -1,7 +1,8 @@
 //! Bytes into tokens.
 
-ghost use Rattle.std.specs.Prelude.{◌≡◌, ◌≤◌, ◌<◌, ◌^◌, length, drop, vec_len, slice_index_or, false};
+ghost use Rattle.std.specs.Prelude.{◌≡◌, ◌≤◌, ◌<◌, ◌^◌, length, drop, slice_index_or, false, All, IfOk};
 ghost use Rattle.fc_base.specs.declared.refusals.Place.{Place};
+ghost use Rattle.c_tokens.specs.Pieces.{IsLexedKind};
 ghost use Rattle.c_lexer.specs.Lexed.{lexed, Gives, outcome_of, token_limit, is_hash, is_include};
 ghost use Rattle.c_lexer.specs.Reading.{line_after, is_start, is_after_include, state, read_piece, read, Adds};
 ghost use Rattle.c_lexer.specs.declared.reader.Line.TheVariants.{Start};
@@ -140,7 +141,8 @@ fn cut(alloc: Global, bytes: &[u8], places: &[Place]) -> Result<Vec<Token>, Faul
 #[tactic(auto, unfolding(crate::specs::Lexed::lexed))]
 pub fn tokens(alloc: Global, bytes: &[u8]) -> Result<Vec<Token>, Fault>
     requires { length bytes.now < 4294967295 }
-    ensures { Gives (λ v. v.items) result (lexed bytes.now) }
+    ensures gives { Gives (λ v. v.items) result (lexed bytes.now) }
+    ensures kinds { IfOk result (λ v. All (λ t. IsLexedKind t.kind) v.items) }
 {
     let joined = join_lines(alloc, bytes)?;
     cut(alloc, &joined.bytes, &joined.places)
