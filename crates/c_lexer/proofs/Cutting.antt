@@ -1,6 +1,6 @@
 -- Piece after piece, as the loop goes.
-use Rattle.std.proofs.Common.{◌≡◌, ℕ, zero, suc, ◌+◌, ◌-◌, ◌<◌, ◌≤◌, ◌&&◌, Bool, true, false, if◌then◌else◌, List, [], ◌∷◌, ◌++◌, length, take, drop, get_or, Option, Some, None, Result, Ok, Err, refl, sym, ap, ◌∙◌, append_assoc, add-zero, arith}
-use Rattle.std.specs.Prelude.{slice_index_or, slice_get}
+use Rattle.std.proofs.Common.{◌≡◌, ℕ, zero, suc, ◌+◌, ◌-◌, ◌<◌, ◌≤◌, ◌&&◌, Bool, true, false, if◌then◌else◌, List, [], ◌∷◌, length, drop, get_or, Option, Some, None, Ok, Err, refl, sym, ap, ◌∙◌, add-zero, arith}
+use Rattle.std.specs.Prelude.{slice_get}
 use Rattle.std.proofs.lemmas.List.{append-nil, drop-drop, length-drop, get_or-drop, drop_all}
 use Rattle.std.proofs.Math.Bool.{and-true, and-false}
 use Rattle.fc_base.specs.declared.refusals.Place.{Place}
@@ -13,12 +13,11 @@ use Rattle.c_tokens.specs.declared.tokens.TokenKind.{TokenKind}
 use Rattle.c_tokens.specs.declared.pieces.Piece.{Piece}
 use Rattle.c_tokens.specs.declared.pieces.Piece.TheVariants.{Space, Newline, Token as TokenPiece, Refused}
 use Rattle.c_tokens.specs.Pieces.{spelled}
-use Rattle.c_lexer.specs.declared.reader.Line.{Line}
 use Rattle.c_lexer.specs.declared.reader.Line.TheVariants.{Start, Hash, Include, Other}
 use Rattle.c_lexer.specs.declared.reader.State.{State}
 use Rattle.c_lexer.specs.Places.{Cell, bytes_of, places_of}
 use Rattle.c_lexer.specs.Longest.{longest, LongestFront}
-use Rattle.c_lexer.specs.Lexed.{Cut, Outcome, all_cut, refused_at, after, token_at, is_hash, is_include, is_first, opens_header, with_piece, with_longest, cut, unless_refused, outcome_of, token_limit, GivesErr}
+use Rattle.c_lexer.specs.Lexed.{Cut, all_cut, refused_at, after, token_at, is_hash, is_include, is_first, opens_header, with_piece, with_longest, cut, unless_refused, outcome_of, token_limit, GivesErr}
 use Rattle.c_lexer.specs.Fronts.{first_piece}
 use Rattle.c_lexer.specs.Reading.{line_of, line_after, is_start, is_after_include, state, read_piece, read_front, read, after_all, AddsErr}
 use Rattle.c_lexer.proofs.Longest.{longest_tells}
@@ -92,7 +91,7 @@ cut_is line spaced (suc left) (c ∷ cs) = cut_is line spaced left cs
 cut_is line spaced zero (c ∷ cs) =
     front_same line spaced c cs (longest (spelled (opens_header line)) (bytes_of (c ∷ cs))) (λ line spaced size. cut line spaced (size - 1) cs) (λ s size. read s (size - 1) (bytes_of cs) (places_of cs)) (λ line spaced size. cut_is line spaced (size - 1) cs)
     ∙ ap (λ r. read_front (state (line_of line) spaced) c.place (places_of (c ∷ cs)) r (λ s size. read s (size - 1) (bytes_of cs) (places_of cs)))
-        (ap (λ v. longest (spelled v) (bytes_of (c ∷ cs))) (header_is line) ∙ longest_piece (is_after_include (line_of line)) (bytes_of (c ∷ cs)))
+    (ap (λ v. longest (spelled v) (bytes_of (c ∷ cs))) (header_is line) ∙ longest_piece (is_after_include (line_of line)) (bytes_of (c ∷ cs)))
 
 -- ---- one piece of the reading
 
@@ -172,7 +171,6 @@ first_place places at d = get_or-drop at places 0 d ∙ ap (λ (i : ℕ). get_or
 
 module _ (bytes rest : List ℕ) (places fronts : List Place) (at : ℕ) (s : State) (after_include : Bool) (front : Option (ℕ × Piece)) (d : Place)
     (lt : at < length bytes) (same : length places ≡ length bytes) (rest_is : rest ≡ drop at bytes) (line_is : after_include ≡ is_after_include s.line) (front_is : front ≡ first_piece after_include rest) where
-
   front_at : first_piece (is_after_include s.line) (drop at bytes) ≡ front
   front_at = sym (front_is ∙ ap (first_piece after_include) rest_is ∙ ap (λ v. first_piece v (drop at bytes)) line_is)
 
@@ -180,7 +178,7 @@ module _ (bytes rest : List ℕ) (places fronts : List Place) (at : ℕ) (s : St
       → outcome_of total ≡ Err (record { rule = BadByte; place = get_or places at d })
   bad_byte none tokens total few owed =
       let cut_at : read s 0 (drop at bytes) (drop at places) ≡ refused_at BadByte (get_or places at d) =
-        read_none s (drop at bytes) (drop at places) d (some_left bytes at lt) (same_left bytes places at same) (front_at ∙ none) ∙ ap (refused_at BadByte) (first_place places at d) in
+      read_none s (drop at bytes) (drop at places) d (some_left bytes at lt) (same_left bytes places at same) (front_at ∙ none) ∙ ap (refused_at BadByte) (first_place places at d) in
       ap outcome_of (sym owed ∙ ap (after_all tokens) cut_at) ∙ none_over tokens (Some (record { rule = BadByte; place = get_or places at d })) few
 
   pub size_bounds : (size : ℕ) (piece : Piece) → front ≡ Some (size, piece) → (1 ≤ size) × (at + size ≤ length bytes)
@@ -194,7 +192,7 @@ module _ (bytes rest : List ℕ) (places fronts : List Place) (at : ℕ) (s : St
       let b = piece_bounds (is_after_include s.line) (drop at bytes) size piece (front_at ∙ some) in
       read_some s (drop at bytes) (drop at places) d size piece (some_left bytes at lt) (same_left bytes places at same) b.0 (front_at ∙ some)
       ∙ rest_same s (get_or (drop at places) 0 d) (drop at places) piece (rest_of (drop at bytes) (drop at places) size) (rest_of bytes places (at + size))
-          (λ s. rw (drop-drop size at bytes, drop-drop size at places) refl)
+      (λ s. rw (drop-drop size at bytes, drop-drop size at places) refl)
       ∙ rw (first_place places at d, ← fronts_is) refl
 
   pub piece_refused : (size : ℕ) (piece : Piece) (f : Fault) (tokens : List Token) (total : Cut) → front ≡ Some (size, piece) → fronts ≡ drop at places

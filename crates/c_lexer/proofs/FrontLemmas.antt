@@ -1,21 +1,21 @@
 -- The longest pieces, by their first bytes.
-use Rattle.std.proofs.Common.{◌≡◌, ℕ, zero, suc, ◌+◌, ◌-◌, ◌<◌, ◌≤◌, ◌==◌, ◌&&◌, not, nat_lt, Bool, true, false, if◌then◌else◌, List, [], ◌∷◌, ◌++◌, length, take, drop, Option, Some, None, option_map, refl, sym, ap, ◌∙◌, arith}
+use Rattle.std.proofs.Common.{◌≡◌, ℕ, zero, suc, ◌+◌, ◌<◌, ◌==◌, ◌&&◌, not, nat_lt, Bool, true, false, if◌then◌else◌, List, [], ◌∷◌, length, take, drop, Option, Some, None, option_map, refl, sym, ap, ◌∙◌, arith}
 use Rattle.std.specs.List.{prefix_len, list_all}
 use Rattle.std.specs.Char.{is_ascii_digit}
 use Rattle.std.proofs.lemmas.Bool.Decides.{nat_tests}
-use Rattle.fc_base.specs.declared.rules.Rule.TheVariants.{OpenComment, LeftOutLiteral}
+use Rattle.fc_base.specs.declared.rules.Rule.TheVariants.{LeftOutLiteral}
 use Rattle.c_tokens.specs.declared.tokens.TokenKind.TheVariants as k
 use Rattle.c_tokens.specs.declared.puncts.Punct.{Punct}
 use Rattle.c_tokens.specs.declared.pieces.Piece.{Piece}
 use Rattle.c_tokens.specs.declared.pieces.Piece.TheVariants.{Space, Newline, Token, Refused}
 use Rattle.c_tokens.specs.Bytes.{is_space, is_newline, begins_name, goes_on, is_quote}
-use Rattle.c_tokens.specs.Puncts.{one_byte, two_bytes, three_bytes, punctuator}
+use Rattle.c_tokens.specs.Puncts.{one_byte, two_bytes, three_bytes}
 use Rattle.c_tokens.specs.Numbers.{number}
 use Rattle.c_tokens.specs.Literals.{Shape, string, constant, header, literal}
 use Rattle.c_tokens.specs.Pieces.{alone, is_prefixed, word, number_from, comment, punct_piece, after_slash, after_dot, spelled}
 use Rattle.c_lexer.specs.Longest.{further, longest}
-use Rattle.c_lexer.specs.Runs.{number_len, comment_end, literal_end, literal_front, or_else, with_length, first_punct}
-use Rattle.c_lexer.specs.Fronts.{Front, punct_front, first_operator, begins_literal, word_of, first_word, first_number, first_dot, comment_piece, first_slash, first_other, first_piece}
+use Rattle.c_lexer.specs.Runs.{literal_front, or_else, with_length}
+use Rattle.c_lexer.specs.Fronts.{punct_front, first_operator, word_of, first_word, first_number, first_dot, first_slash, first_other, first_piece}
 use Rattle.c_lexer.proofs.Longest.{longest_same, longest_first, longest_run, longest_all, longest_number, longest_literal, longest_comment, EndsAt, after_run, past_run}
 
 pub word_is : (text rest : List ℕ) (n : ℕ) → 0 < length text → rest ≡ drop 1 text → n ≡ prefix_len goes_on rest → Some (word_of (n + 1) text) ≡ first_word text
@@ -93,7 +93,7 @@ word_joined b n bs v w e f =
     rw (same, one, two) (joined v w e f)
   where
     joined : (v w : Bool) → nat_lt n (length bs) ≡ v → is_prefixed (b ∷ take (suc n) bs) ≡ w
-      → further {X = Piece} None (Some (after_run n (Token (k.Name (b ∷ take n bs))) (if nat_lt n (length bs) then prefixed b (take (suc n) bs) else None)))
+        → further {X = Piece} None (Some (after_run n (Token (k.Name (b ∷ take n bs))) (if nat_lt n (length bs) then prefixed b (take (suc n) bs) else None)))
         ≡ Some (if nat_lt n (length bs) && is_prefixed (b ∷ take (suc n) bs) then (suc (suc n), Refused LeftOutLiteral 0) else (suc n, Token (k.Name (b ∷ take n bs))))
     joined true true e f = rw (e, f) refl
     joined true false e f = rw (e, f) refl
@@ -116,7 +116,7 @@ dot_step : (b : ℕ) (bs : List ℕ) (v : Bool) → is_ascii_digit b ≡ v → f
 unfolding longest first_dot
 dot_step b bs true e =
     ap (λ r. further None (further (after_dot []) r))
-      (longest_same (λ front. after_dot (b ∷ front)) (λ front. number_from (46 ∷ b ∷ front) b front) (λ front. rw e refl) bs ∙ longest_number b (λ front. number (46 ∷ b ∷ front)) bs)
+    (longest_same (λ front. after_dot (b ∷ front)) (λ front. number_from (46 ∷ b ∷ front) b front) (λ front. rw e refl) bs ∙ longest_number b (λ front. number (46 ∷ b ∷ front)) bs)
     ∙ rw e refl
 dot_step b bs false e =
     ap (λ r. further None (further (after_dot []) r)) (longest_same (λ front. after_dot (b ∷ front)) (λ front. punct_piece (46 ∷ b ∷ front)) (λ front. rw e refl) bs)
@@ -133,7 +133,7 @@ slash_step : (b : ℕ) (bs : List ℕ) (v w : Bool) → (b == 47) ≡ v → (b =
 unfolding longest first_slash
 slash_step b bs true w e f =
     ap (λ r. further None (further (after_slash []) r))
-      (longest_same (λ front. after_slash (b ∷ front)) (λ front. if list_all (λ c. not (is_newline c)) front then Some Space else None) (λ front. rw e refl) bs ∙ longest_all (λ c. not (is_newline c)) (λ front. Space) bs)
+    (longest_same (λ front. after_slash (b ∷ front)) (λ front. if list_all (λ c. not (is_newline c)) front then Some Space else None) (λ front. rw e refl) bs ∙ longest_all (λ c. not (is_newline c)) (λ front. Space) bs)
     ∙ rw e refl
 slash_step b bs false true e f =
     ap (λ r. further None (further (after_slash []) r)) (longest_same (λ front. after_slash (b ∷ front)) (comment false) (λ front. rw (e, f) refl) bs ∙ longest_comment false bs) ∙ rw (e, f) refl

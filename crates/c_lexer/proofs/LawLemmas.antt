@@ -1,8 +1,8 @@
 -- Laws of lexed texts.
-use Rattle.std.proofs.Common.{◌≡◌, ℕ, zero, suc, ◌+◌, ◌-◌, ◌<◌, ◌≤◌, ◌==◌, ◌&&◌, not, Bool, true, false, if◌then◌else◌, List, [], ◌∷◌, ◌++◌, length, take, drop, Option, Some, None, option_map, Result, Ok, Err, refl, sym, ap, ◌∙◌, arith}
-use Rattle.std.specs.Prelude.{slice_get, slice_index_or, nat_lt, codes}
+use Rattle.std.proofs.Common.{◌≡◌, ℕ, zero, suc, ◌+◌, ◌-◌, ◌≤◌, ◌==◌, not, Bool, true, false, List, [], ◌∷◌, ◌++◌, length, take, drop, Option, Some, None, option_map, Result, Ok, Err, refl, ap, ◌∙◌, arith}
+use Rattle.std.specs.Prelude.{slice_get, nat_lt, codes}
 use Rattle.std.specs.Result.{IfOk}
-use Rattle.std.specs.List.{list_all, All, AllByRecursion}
+use Rattle.std.specs.List.{All, AllByRecursion}
 use Rattle.std.proofs.lemmas.List.Elements.{All-from_recursion}
 use Rattle.std.proofs.lemmas.List.{length-map}
 use Rattle.std.proofs.Math.Bool.{and-false}
@@ -23,9 +23,9 @@ use Rattle.c_tokens.proofs.TokenFacts.{token_facts, on_line}
 use Rattle.c_tokens.specs.Puncts.{operator, one_byte, with_assign, doubled, header_name, include_line}
 use Rattle.c_tokens.specs.Literals.{shape}
 use Rattle.c_lexer.specs.Fronts.{first_piece, first_other, first_word}
-use Rattle.c_lexer.specs.Places.{Cell, cell_at, place_at, placed, bytes_of, places_of, begins_line}
+use Rattle.c_lexer.specs.Places.{Cell, cell_at, place_at, placed, bytes_of, begins_line}
 use Rattle.c_lexer.specs.Longest.{longest, further, IsLongest, LongestFront}
-use Rattle.c_lexer.specs.Lexed.{Cut, Outcome, all_cut, after, token_at, with_piece, with_longest, cut, is_first, opens_header, unless_refused, unless_over, outcome_of, token_limit, lexed, Gives}
+use Rattle.c_lexer.specs.Lexed.{Cut, all_cut, after, token_at, with_piece, with_longest, cut, is_first, opens_header, unless_refused, unless_over, outcome_of, token_limit, lexed, Gives}
 use Rattle.c_lexer.specs.Respelled.{include_tokens, first_token, IsReadAs}
 use Rattle.c_lexer.proofs.Longest.{longest_tells}
 use Rattle.c_lexer.proofs.FrontLemmas.{longest_piece}
@@ -56,7 +56,7 @@ cut_kinds line spaced left [] = tt
 cut_kinds line spaced (suc left) (c ∷ cs) = cut_kinds line spaced left cs
 cut_kinds line spaced zero (c ∷ cs) =
     front_kinds (opens_header line) (bytes_of (c ∷ cs)) line spaced c.place (c ∷ cs) (longest (spelled (opens_header line)) (bytes_of (c ∷ cs))) (λ line spaced size. cut line spaced (size - 1) cs)
-      (longest_tells (spelled (opens_header line)) (bytes_of (c ∷ cs))) (λ line spaced size. cut_kinds line spaced (size - 1) cs)
+    (longest_tells (spelled (opens_header line)) (bytes_of (c ∷ cs))) (λ line spaced size. cut_kinds line spaced (size - 1) cs)
 
 outcome_kinds : (tokens : List Token) (o : Option Token) (refusal : Option Refusal) (ts : List Token) → AllByRecursion HasLexedKind tokens → unless_over o (unless_refused tokens refusal) ≡ Ok ts → AllByRecursion HasLexedKind ts
 outcome_kinds tokens None None ts all is = let same : tokens ≡ ts = cc in rw (← same) all
@@ -172,17 +172,17 @@ unfolding cut
 cut_include cs =
     cut_step [] false (cell_at 35 1 1) (drop 1 (include_cells cs)) 0 (TokenPiece hash_kind) (hash_first (bytes_of (drop 3 (include_cells cs))))
     ∙ ap (after (token_at (place_at 1 1) true false hash_kind))
-        (cut_step (hash_kind ∷ []) false (cell_at 105 1 2) (drop 2 (include_cells cs)) 6 (TokenPiece include_kind) (include_first (bytes_of cs))
-        ∙ ap (after (token_at (place_at 1 2) false false include_kind))
-            (cut_step (include_kind ∷ hash_kind ∷ []) false (cell_at 32 1 9) cs 0 Space (space_first true (bytes_of cs))))
+    (cut_step (hash_kind ∷ []) false (cell_at 105 1 2) (drop 2 (include_cells cs)) 6 (TokenPiece include_kind) (include_first (bytes_of cs))
+    ∙ ap (after (token_at (place_at 1 2) false false include_kind))
+    (cut_step (include_kind ∷ hash_kind ∷ []) false (cell_at 32 1 9) cs 0 Space (space_first true (bytes_of cs))))
 
 header_text : (text name : List ℕ) → spelled true text ≡ Some (TokenPiece (k.HeaderName name)) → on_line text ≡ true → lexed (codes "#include " ++ text) ≡ Ok (include_tokens name)
 unfolding spelled lexed
 header_text [] name is all = absurd cc
 header_text (b ∷ bs) name is all =
     ap outcome_of
-      (ap (cut [] false 0) (include_placed (b ∷ bs)) ∙ cut_include (placed false 1 10 (b ∷ bs))
-      ∙ ap (λ c. after (token_at (place_at 1 1) true false hash_kind) (after (token_at (place_at 1 2) false false include_kind) c)) (cut_one (include_kind ∷ hash_kind ∷ []) true 1 10 b bs (k.HeaderName name) all is))
+    (ap (cut [] false 0) (include_placed (b ∷ bs)) ∙ cut_include (placed false 1 10 (b ∷ bs))
+    ∙ ap (λ c. after (token_at (place_at 1 1) true false hash_kind) (after (token_at (place_at 1 2) false false include_kind) c)) (cut_one (include_kind ∷ hash_kind ∷ []) true 1 10 b bs (k.HeaderName name) all is))
 
 reads_header : (text name : List ℕ) → spelled true text ≡ Some (TokenPiece (k.HeaderName name)) → lexed (codes "#include " ++ text) ≡ Ok (include_tokens name)
 reads_header text name is = header_text text name is (token_facts true text (k.HeaderName name) is).line

@@ -1,16 +1,15 @@
 -- Laws of the longest front, and the longest fronts of each kind of piece.
-use Rattle.std.proofs.Common.{◌≡◌, ℕ, zero, suc, ◌+◌, ◌≤◌, ◌<◌, ◌==◌, ◌&&◌, not, Bool, true, false, if◌then◌else◌, List, [], ◌∷◌, ◌++◌, length, take, drop, Option, Some, None, option_map, refl, sym, ap, ◌∙◌, arith}
+use Rattle.std.proofs.Common.{◌≡◌, ℕ, zero, suc, ◌+◌, ◌≤◌, ◌<◌, ◌==◌, ◌&&◌, not, Bool, true, false, if◌then◌else◌, List, [], ◌∷◌, ◌++◌, length, take, Option, Some, None, option_map, refl, ap, ◌∙◌, arith}
 use Rattle.std.specs.List.{prefix_len, list_all}
 use Rattle.fc_base.specs.declared.rules.Rule.TheVariants.{OpenComment}
 use Rattle.c_tokens.specs.declared.pieces.Piece.{Piece}
-use Rattle.c_tokens.specs.declared.pieces.Piece.TheVariants.{Space, Refused}
-use Rattle.c_tokens.specs.Bytes.{is_empty}
+use Rattle.c_tokens.specs.declared.pieces.Piece.TheVariants.{Refused}
 use Rattle.c_tokens.specs.Numbers.{in_number, all_in_number}
-use Rattle.c_tokens.specs.Literals.{Shape, closed, unclosed, shape}
-use Rattle.c_tokens.specs.Pieces.{alone, comment}
-use Rattle.c_lexer.specs.Longest.{further, longest, IsLongest, TakesNone, LongestFront}
+use Rattle.c_tokens.specs.Literals.{Shape, unclosed, shape}
+use Rattle.c_tokens.specs.Pieces.{comment}
+use Rattle.c_lexer.specs.Longest.{further, longest, LongestFront}
 use Rattle.c_lexer.specs.Fronts.{comment_piece}
-use Rattle.c_lexer.specs.Runs.{number_len, one_more, literal_end, comment_end}
+use Rattle.c_lexer.specs.Runs.{number_len, literal_end, comment_end}
 
 -- ---- the longest front is what its name says
 
@@ -105,7 +104,7 @@ run_step p h g b bs true e ends so =
     ∙ rw (e, one) refl
 run_step p h g b bs false e ends so =
     ap (further (Some (h []))) (longest_same (λ front. run_or p h g (b ∷ front)) (λ front. g (b ∷ front)) (λ front. rw e refl) bs
-      ∙ longest_first (λ front. g (b ∷ front)) (λ d front. ends [] b d front refl e) bs)
+    ∙ longest_first (λ front. g (b ∷ front)) (λ d front. ends [] b d front refl e) bs)
     ∙ after_none (h []) (g (b ∷ [])) ∙ rw e refl
 
 ends_more : {X : Type 0} (p : ℕ → Bool) (g : List ℕ → Option X) (b : ℕ) → p b ≡ true → EndsAt p g → EndsAt p (λ r. g (b ∷ r))
@@ -161,7 +160,7 @@ literal_step close escapes escaped of b bs false true e f so =
     ap (further (Some (of unclosed []))) (longest_first (λ front. option_map (λ s. of s (b ∷ front)) (shape close escapes escaped (b ∷ front))) (λ c front. rw (e, f) refl) bs) ∙ rw (e, f) refl
 literal_step close escapes escaped of b bs false false e f so =
     ap (further (Some (of unclosed [])))
-      (longest_same (λ front. option_map (λ s. of s (b ∷ front)) (shape close escapes escaped (b ∷ front))) (λ front. option_map (λ s. of s (b ∷ front)) (shape close escapes (escapes && b == 92 && not escaped) front)) (λ front. rw (e, f) refl) bs ∙ so)
+    (longest_same (λ front. option_map (λ s. of s (b ∷ front)) (shape close escapes escaped (b ∷ front))) (λ front. option_map (λ s. of s (b ∷ front)) (shape close escapes (escapes && b == 92 && not escaped) front)) (λ front. rw (e, f) refl) bs ∙ so)
     ∙ rw (e, f) refl
 
 pub longest_literal : {X : Type 0} (close : ℕ) (escapes escaped : Bool) (of : Shape → List ℕ → X) (bs : List ℕ)

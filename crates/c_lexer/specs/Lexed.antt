@@ -1,5 +1,5 @@
 -- A source cut into its longest pieces (C11 6.4), and its tokens or first refusal.
-use Rattle.std.specs.Prelude.{◌≡◌, ℕ, zero, suc, ◌-◌, ◌==◌, ◌&&◌, Bool, true, false, if◌then◌else◌, List, [], ◌∷◌, codes, slice_get, slice_index_or, Option, Some, None, Result, Ok, Err}
+use Rattle.std.specs.Prelude.{◌≡◌, ℕ, zero, suc, ◌-◌, ◌&&◌, Bool, true, false, List, [], ◌∷◌, codes, slice_get, slice_index_or, Option, Some, None, Result, Ok, Err}
 use Rattle.std.specs.Str.{bytes_eq}
 use Rattle.fc_base.specs.declared.refusals.Place.{Place}
 use Rattle.fc_base.specs.declared.refusals.Refusal.{Refusal}
@@ -14,7 +14,6 @@ use Rattle.c_tokens.specs.declared.tokens.TokenKind.{TokenKind}
 use Rattle.c_tokens.specs.declared.tokens.TokenKind.TheVariants as k
 use Rattle.c_tokens.specs.declared.pieces.Piece.{Piece}
 use Rattle.c_tokens.specs.declared.pieces.Piece.TheVariants.{Space, Newline, Token as TokenPiece, Refused}
-use Rattle.c_tokens.specs.Bytes.{is_empty}
 use Rattle.c_tokens.specs.Pieces.{spelled}
 use Rattle.c_lexer.specs.Places.{Cell, placed, bytes_of, places_of}
 use Rattle.c_lexer.specs.Longest.{longest}
@@ -85,7 +84,7 @@ cut line spaced left [] = all_cut
 cut line spaced (suc left) (c ∷ cs) = cut line spaced left cs
 cut line spaced zero (c ∷ cs) =
     with_longest line spaced c.place (c ∷ cs) (longest (spelled (opens_header line)) (bytes_of (c ∷ cs)))
-      (λ line spaced size. cut line spaced (size - 1) cs)
+    (λ line spaced size. cut line spaced (size - 1) cs)
 
 -- ---- the outcome
 

@@ -7,9 +7,6 @@ ghost use Rattle.c_lexer.specs.Runs.{first_character};
 use crate::bytes::{Class, digit_value, run_length};
 use crate::numbers::value_of;
 
-
-
-
 /// The value of a backslash and this byte.
 #[tactic(auto, unfolding(c_tokens::specs::Literals::simple_escape))]
 fn simple_escape(b: u8) -> Option<u8>

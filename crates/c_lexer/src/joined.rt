@@ -36,19 +36,31 @@ pub fn join_lines(alloc: Global, mut bytes: &[u8]) -> Result<Joined, AllocError>
     while let [b, rest @ ..] = bytes {
         if is_joined {
             is_joined = false;
-            place = Place { line: place.line + 1, col: 1 };
+            place = Place {
+                line: place.line + 1,
+                col: 1,
+            };
         } else if *b == b'\\' && begins_line(rest) {
             is_joined = true;
         } else {
             left.push(*b)?;
             places.push(place)?;
             place = if *b == b'\n' {
-                Place { line: place.line + 1, col: 1 }
+                Place {
+                    line: place.line + 1,
+                    col: 1,
+                }
             } else {
-                Place { line: place.line, col: place.col + 1 }
+                Place {
+                    line: place.line,
+                    col: place.col + 1,
+                }
             };
         }
         bytes = rest;
     }
-    Ok(Joined { bytes: left, places })
+    Ok(Joined {
+        bytes: left,
+        places,
+    })
 }

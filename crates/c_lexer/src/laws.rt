@@ -10,11 +10,9 @@ ghost use Rattle.c_lexer.specs.Respelled.{IsReadAs};
 /// What `longest` finds is the longest front: the test takes it, and takes no longer one.
 pub fn longest_fronts()
     ensures { (f : List ℕ → Option Piece) (text : List ℕ) → LongestFront f text (longest f text) }
-{
-}
+{}
 
 /// A spelling is read as one token of its kind.
 pub fn readings_of_spellings()
     ensures { (text : List ℕ) (kind : TokenKind) → Spells text kind → IsReadAs text kind }
-{
-}
+{}

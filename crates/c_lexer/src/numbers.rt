@@ -111,7 +111,11 @@ fn integer_in(base: u8, body: &[u8]) -> Piece
     if digits.is_empty() {
         return Piece::Refused(Rule::LeftOutLiteral, 0);
     }
-    let kind = NumberKind { decimal: base == 10, unsigned, longs };
+    let kind = NumberKind {
+        decimal: base == 10,
+        unsigned,
+        longs,
+    };
     match value_of(base, digits) {
         Some(value) => Piece::Token(TokenKind::Number { value, kind }),
         None => Piece::Refused(Rule::BigNumber, 0),

@@ -92,7 +92,11 @@ fn slash(bytes: &[u8]) -> Option<(usize, Piece)>
         [_, b'/', rest @ ..] => Some((line_length(rest) + 2, Piece::Space)),
         [_, b'*', rest @ ..] => {
             let (size, is_closed) = comment_length(rest);
-            let piece = if is_closed { Piece::Space } else { Piece::Refused(Rule::OpenComment, 0) };
+            let piece = if is_closed {
+                Piece::Space
+            } else {
+                Piece::Refused(Rule::OpenComment, 0)
+            };
             Some((size + 2, piece))
         }
         _ => operator(bytes),
@@ -101,7 +105,11 @@ fn slash(bytes: &[u8]) -> Option<(usize, Piece)>
 
 /// What begins with another byte than white space, a letter or a digit.
 #[tactic(auto, unfolding(crate::specs::Fronts::first_other))]
-fn other(alloc: Global, bytes: &[u8], after_include: bool) -> Result<Option<(usize, Piece)>, NoMemory>
+fn other(
+    alloc: Global,
+    bytes: &[u8],
+    after_include: bool,
+) -> Result<Option<(usize, Piece)>, NoMemory>
     requires length { 0 < length bytes.now }
     requires bound { length bytes.now < 2 ^ 63 }
     ensures { IfOk result (λ r. r ≡ first_other after_include bytes.now) }
@@ -124,7 +132,11 @@ fn other(alloc: Global, bytes: &[u8], after_include: bool) -> Result<Option<(usi
 
 /// The longest piece at the front, with its length. After `#` and `include` a `<` opens a header name.
 #[tactic(auto, unfolding(crate::specs::Fronts::first_piece))]
-pub fn piece(alloc: Global, bytes: &[u8], after_include: bool) -> Result<Option<(usize, Piece)>, NoMemory>
+pub fn piece(
+    alloc: Global,
+    bytes: &[u8],
+    after_include: bool,
+) -> Result<Option<(usize, Piece)>, NoMemory>
     requires { length bytes.now < 2 ^ 63 }
     ensures { IfOk result (λ r. r ≡ first_piece after_include bytes.now) }
 {

@@ -84,17 +84,33 @@ fn refused(rule: Rule, place: Place) -> Fault
 fn place_at(places: &[Place], offset: usize, place: Place) -> Place
     ensures { result ≡ slice_index_or places.now offset place }
 {
-    if offset < places.len() { places[offset] } else { place }
+    if offset < places.len() {
+        places[offset]
+    } else {
+        place
+    }
 }
 
 /// Adds the token of a piece at the front of these places, where it has one.
-fn add(tokens: &mut Vec<Token>, state: State, piece: Piece, place: Place, places: &[Place]) -> Result<State, Fault>
+fn add(
+    tokens: &mut Vec<Token>,
+    state: State,
+    piece: Piece,
+    place: Place,
+    places: &[Place],
+) -> Result<State, Fault>
     requires { length tokens.old.items ≤ token_limit }
     ensures { Adds result tokens.old.items tokens.new.items (read_piece state place places.now piece) }
 {
     match piece {
-        Piece::Space => Ok(State { line: state.line, spaced: true }),
-        Piece::Newline => Ok(State { line: Line::Start, spaced: true }),
+        Piece::Space => Ok(State {
+            line: state.line,
+            spaced: true,
+        }),
+        Piece::Newline => Ok(State {
+            line: Line::Start,
+            spaced: true,
+        }),
         Piece::Refused(rule, offset) => Err(refused(rule, place_at(places, offset, place))),
         Piece::Token(kind) => {
             if tokens.len() == TOKEN_LIMIT {
@@ -102,8 +118,16 @@ fn add(tokens: &mut Vec<Token>, state: State, piece: Piece, place: Place, places
             }
             let line = state.line.after(&kind);
             let starts_line = state.line.is_start();
-            tokens.push(Token { kind, place, starts_line, spaced: state.spaced })?;
-            Ok(State { line, spaced: false })
+            tokens.push(Token {
+                kind,
+                place,
+                starts_line,
+                spaced: state.spaced,
+            })?;
+            Ok(State {
+                line,
+                spaced: false,
+            })
         }
     }
 }
@@ -123,7 +147,10 @@ fn cut(alloc: Global, bytes: &[u8], places: &[Place]) -> Result<Vec<Token>, Faul
     ensures { Gives (λ v. v.items) result (outcome_of (read (state Start false) 0 bytes.now places.now)) }
 {
     let mut tokens = Vec::new(alloc);
-    let mut state = State { line: Line::Start, spaced: false };
+    let mut state = State {
+        line: Line::Start,
+        spaced: false,
+    };
     let mut at = 0;
     while at < bytes.len() {
         let place = places[at];

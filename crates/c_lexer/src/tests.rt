@@ -98,15 +98,36 @@ fn rows_of_tokens(rt: HostRuntime) -> Result<(), Fail> {
         (b"+\\\n= 1", "+= 1:1^\n1d0 2:3_\n"),
         (b"/* *\\\n/ a", "a 2:3^_\n"),
         (b"'\\\\\nn' '\\\\\n\\'", "'10' 1:1^\n'92' 2:4_\n"),
-        (b"'\\0' '\\377' '\\x7f' '\"' '\xff'", "'0' 1:1^\n'255' 1:6_\n'127' 1:13_\n'34' 1:20_\n'255' 1:24_\n"),
+        (
+            b"'\\0' '\\377' '\\x7f' '\"' '\xff'",
+            "'0' 1:1^\n'255' 1:6_\n'127' 1:13_\n'34' 1:20_\n'255' 1:24_\n",
+        ),
         (b"\"a\\n\\\"\\1234//\"", "\"97,10,34,83,52,47,47,\" 1:1^\n"),
         (b"\"\" \"\x80\0\"", "\"\" 1:1^\n\"128,0,\" 1:4_\n"),
-        (b"0 7u 07L 0xFll 9ULL 3LLu", "00 1:1^\n7du0 1:3_\n71 1:6_\n152 1:10_\n9du2 1:16_\n3du2 1:21_\n"),
-        (b"18446744073709551615 0x0ffffffffffffffff", "18446744073709551615d0 1:1^\n184467440737095516150 1:22_\n"),
-        (b" # /**/ include <a b\\>x<y", "# 1:2^_\ninclude 1:9_\n<a b\\> 1:17_\nx 1:23\n< 1:24\ny 1:25\n"),
-        (b"#include <>\n<a>", "# 1:1^\ninclude 1:2\n<> 1:10_\n< 2:1^_\na 2:2\n> 2:3\n"),
-        (b"x #include <a>", "x 1:1^\n# 1:3_\ninclude 1:4\n< 1:12_\na 1:13\n> 1:14\n"),
-        (b"#include \"a.h\"", "# 1:1^\ninclude 1:2\n\"97,46,104,\" 1:10_\n"),
+        (
+            b"0 7u 07L 0xFll 9ULL 3LLu",
+            "00 1:1^\n7du0 1:3_\n71 1:6_\n152 1:10_\n9du2 1:16_\n3du2 1:21_\n",
+        ),
+        (
+            b"18446744073709551615 0x0ffffffffffffffff",
+            "18446744073709551615d0 1:1^\n184467440737095516150 1:22_\n",
+        ),
+        (
+            b" # /**/ include <a b\\>x<y",
+            "# 1:2^_\ninclude 1:9_\n<a b\\> 1:17_\nx 1:23\n< 1:24\ny 1:25\n",
+        ),
+        (
+            b"#include <>\n<a>",
+            "# 1:1^\ninclude 1:2\n<> 1:10_\n< 2:1^_\na 2:2\n> 2:3\n",
+        ),
+        (
+            b"x #include <a>",
+            "x 1:1^\n# 1:3_\ninclude 1:4\n< 1:12_\na 1:13\n> 1:14\n",
+        ),
+        (
+            b"#include \"a.h\"",
+            "# 1:1^\ninclude 1:2\n\"97,46,104,\" 1:10_\n",
+        ),
         (b"u8 L\x0b\x0c\tU1", "u8 1:1^\nL 1:4_\nU1 1:8_\n"),
     ];
     for (source, want) in rows {
@@ -183,8 +204,14 @@ fn one_token_over_the_limit(rt: HostRuntime) -> Result<(), Fail> {
     source.push(b' ')?;
     source.push(b';')?;
     source.push(b'@')?;
-    let place = Place { line: 1, col: 1_000_002 };
-    let over = Err(Fault::Refused(Refusal { rule: Rule::LimitTokens, place }));
+    let place = Place {
+        line: 1,
+        col: 1_000_002,
+    };
+    let over = Err(Fault::Refused(Refusal {
+        rule: Rule::LimitTokens,
+        place,
+    }));
     assert_eq!(rt; counted(rt.alloc(), &source), over);
     Ok(())
 }

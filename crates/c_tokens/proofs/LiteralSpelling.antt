@@ -1,5 +1,5 @@
 -- A literal is spelled by what stands for its bytes.
-use Rattle.std.proofs.Common.{◌≡◌, ℕ, zero, suc, ◌+◌, ◌-◌, ◌*◌, ◌/◌, ◌%◌, ◌<◌, ◌≤◌, ◌==◌, ◌&&◌, ◌||◌, not, nat_lt, nat_le, Bool, true, false, if◌then◌else◌, List, [], ◌∷◌, ◌++◌, length, take, drop, get_or, Option, Some, None, option_map, Result, Ok, Err, refl, sym, ap, ◌∙◌, append_assoc, arith}
+use Rattle.std.proofs.Common.{◌≡◌, ℕ, suc, ◌+◌, ◌-◌, ◌*◌, ◌/◌, ◌%◌, ◌<◌, ◌==◌, ◌&&◌, ◌||◌, not, nat_lt, nat_le, Bool, true, false, List, [], ◌∷◌, ◌++◌, length, Some, Ok, refl, ap, ◌∙◌, append_assoc, arith}
 use Rattle.std.specs.List.{flat_map, list_all}
 use Rattle.std.specs.Char.{digit_value, is_digit}
 use Rattle.std.proofs.Math.Bool.{and-false}
@@ -8,9 +8,8 @@ use Rattle.std.proofs.Math.Seq.{take-append_seam}
 use Rattle.std.proofs.lemmas.Bool.{lt-ltb, and_parts}
 use Rattle.std.proofs.lemmas.Bool.Decides.{nat_tests}
 use Rattle.c_tokens.specs.declared.tokens.TokenKind.TheVariants as k
-use Rattle.c_tokens.specs.declared.pieces.Piece.{Piece}
 use Rattle.c_tokens.specs.declared.pieces.Piece.TheVariants.{Token}
-use Rattle.c_tokens.specs.Literals.{Shape, closed, shape, simple_escape, byte_value, escape, Character, character, characters, valued, values, body_of, string, constant, header, literal}
+use Rattle.c_tokens.specs.Literals.{closed, shape, simple_escape, byte_value, escape, Character, character, characters, valued, values, body_of}
 use Rattle.c_tokens.specs.Pieces.{in_header, spelled}
 use Rattle.c_tokens.specs.Spelling.{octal_digit, escaped, quoted}
 
@@ -63,13 +62,14 @@ shape_byte close b rest q (behind e w) =
 shape_byte close b rest q (itself e f g ten w) = rw w (shape_plain close b rest ten (q.plain b e f) g)
 shape_byte close b rest q (octal w) =
     rw w
-      (shape_backslash close (octal_digit (b / 64) ∷ octal_digit (b / 8 % 8) ∷ octal_digit (b % 8) ∷ rest) q.backslash
-      ∙ shape_escaped close (octal_digit (b / 64)) (octal_digit (b / 8 % 8) ∷ octal_digit (b % 8) ∷ rest) (not_ten (b / 64))
-      ∙ shape_plain close (octal_digit (b / 8 % 8)) (octal_digit (b % 8) ∷ rest) (not_ten (b / 8 % 8)) (q.digit (b / 8 % 8)) (not_back (b / 8 % 8) (omega arith))
-      ∙ shape_plain close (octal_digit (b % 8)) rest (not_ten (b % 8)) (q.digit (b % 8)) (not_back (b % 8) (omega arith)))
+    (shape_backslash close (octal_digit (b / 64) ∷ octal_digit (b / 8 % 8) ∷ octal_digit (b % 8) ∷ rest) q.backslash
+    ∙ shape_escaped close (octal_digit (b / 64)) (octal_digit (b / 8 % 8) ∷ octal_digit (b % 8) ∷ rest) (not_ten (b / 64))
+    ∙ shape_plain close (octal_digit (b / 8 % 8)) (octal_digit (b % 8) ∷ rest) (not_ten (b / 8 % 8)) (q.digit (b / 8 % 8)) (not_back (b / 8 % 8) (omega arith))
+    ∙ shape_plain close (octal_digit (b % 8)) rest (not_ten (b % 8)) (q.digit (b % 8)) (not_back (b % 8) (omega arith)))
   where
     not_ten : (d : ℕ) → (octal_digit d == 10) ≡ false
     not_ten d = grind (arith, nat_tests)
+
     not_back : (d : ℕ) → d < 8 → (octal_digit d == 92) ≡ false
     not_back d lt = grind (arith, nat_tests)
 

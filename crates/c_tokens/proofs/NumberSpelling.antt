@@ -1,9 +1,9 @@
 -- An integer literal is spelled by its digits and its suffix.
-use Rattle.std.proofs.Common.{◌≡◌, ℕ, zero, suc, ◌+◌, ◌-◌, ◌*◌, ◌/◌, ◌%◌, ◌^◌, ◌<◌, ◌≤◌, ◌==◌, ◌&&◌, ◌||◌, not, nat_lt, nat_le, Bool, true, false, if◌then◌else◌, List, [], ◌∷◌, ◌++◌, length, take, drop, get_or, map, Option, Some, None, option_map, Result, Ok, Err, refl, sym, ap, ◌∙◌, append_assoc, arith}
-use Rattle.std.specs.Prelude.{decimal, IsTrue}
-use Rattle.std.specs.List.{list_all, prefix_len, take_while}
+use Rattle.std.proofs.Common.{◌≡◌, ℕ, zero, suc, ◌+◌, ◌^◌, ◌<◌, ◌≤◌, ◌==◌, ◌||◌, nat_lt, Bool, true, false, List, [], ◌∷◌, ◌++◌, length, get_or, map, Some, refl, ap, ◌∙◌, arith}
+use Rattle.std.specs.Prelude.{decimal}
+use Rattle.std.specs.List.{list_all, prefix_len}
 use Rattle.std.specs.Char.{digit_value, is_digit, is_ascii_digit}
-use Rattle.std.specs.Str.Parse.{digits_value, IsNumeral, AllDigits}
+use Rattle.std.specs.Str.Parse.{digits_value, AllDigits}
 use Rattle.std.specs.Int.Digits.{digits_of, number_from_digits, AllBelowBase}
 use Rattle.std.proofs.Math.Seq.{take-append_seam, drop-append_seam}
 use Rattle.std.proofs.lemmas.Bool.{lt-ltb, and_parts}
@@ -12,12 +12,11 @@ use Rattle.std.proofs.lemmas.Int.Digits.{digits_value_is, number_digits_of, all_
 use Rattle.std.proofs.lemmas.Fmt.{decimal_is_IsNumeral, first_decimal}
 use Rattle.c_tokens.specs.declared.tokens.NumberKind.{NumberKind}
 use Rattle.c_tokens.specs.declared.tokens.TokenKind.TheVariants as k
-use Rattle.c_tokens.specs.declared.pieces.Piece.{Piece}
 use Rattle.c_tokens.specs.declared.pieces.Piece.TheVariants.{Token}
 use Rattle.c_tokens.specs.Bytes.{is_space, is_newline, begins_name, goes_on, is_empty}
-use Rattle.c_tokens.specs.Numbers.{all_in_number, in_number, suffix_of, integer, integer_in, is_hexadecimal, begins_zero, number}
-use Rattle.c_tokens.specs.Pieces.{number_from, spelled}
-use Rattle.c_tokens.specs.Spelling.{octal_digit, digits_text, suffix_text, number_text}
+use Rattle.c_tokens.specs.Numbers.{all_in_number, in_number, suffix_of, integer_in, is_hexadecimal, number}
+use Rattle.c_tokens.specs.Pieces.{spelled}
+use Rattle.c_tokens.specs.Spelling.{octal_digit, suffix_text, number_text}
 
 -- ---- digits
 
@@ -172,4 +171,4 @@ spells_number value kind small longs positive = by_base kind.decimal refl
         rw e (decimal_text value (decimal value) (suffix_text kind.unsigned kind.longs) kind.unsigned kind.longs numeral.0.0 (first_decimal value (positive e) small) (from_all 10 (decimal value) numeral.0.1) numeral.1 small (suffixes kind.unsigned kind.longs longs))
     by_base false e =
         rw e (octal_number value (map octal_digit (digits_of 8 value)) (suffix_text kind.unsigned kind.longs) kind.unsigned kind.longs (octal_all (digits_of 8 value) (all_below_base_digits_of 8 value (omega arith))) (octal_value value) small
-          (suffixes kind.unsigned kind.longs longs))
+        (suffixes kind.unsigned kind.longs longs))

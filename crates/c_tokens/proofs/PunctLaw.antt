@@ -1,5 +1,5 @@
 -- A punctuator's text is its spelling.
-use Rattle.std.proofs.Common.{◌≡◌, ℕ, ◌==◌, ◌&&◌, Bool, true, false, if◌then◌else◌, List, [], ◌∷◌, Option, Some, None, refl, sym, ap, ◌∙◌, arith}
+use Rattle.std.proofs.Common.{◌≡◌, ℕ, ◌==◌, ◌&&◌, Bool, true, false, if◌then◌else◌, List, [], ◌∷◌, Option, Some, None, refl, sym, ap, ◌∙◌}
 use Rattle.std.specs.List.{list_all}
 use Rattle.std.specs.Str.{bytes_eq}
 use Rattle.std.proofs.lemmas.Slice.Eq.{bytes_eq-Decides}
@@ -100,9 +100,9 @@ three_step a b c k l m q punct rest false e t so found = so (rw e at found)
 three_text : (a b c : ℕ) (punct : Punct) → three_bytes a b c ≡ Some punct → a ∷ b ∷ c ∷ [] ≡ punct_spelling punct
 three_text a b c punct found =
     three_step a b c 46 46 46 p.Ellipsis punct _ (a == 46 && b == 46 && c == 46) refl refl
-      (three_step a b c 60 60 61 p.ShiftLeftAssign punct _ (a == 60 && b == 60 && c == 61) refl refl
-        (three_step a b c 62 62 61 p.ShiftRightAssign punct None (a == 62 && b == 62 && c == 61) refl refl (λ e. absurd cc)))
-      found
+    (three_step a b c 60 60 61 p.ShiftLeftAssign punct _ (a == 60 && b == 60 && c == 61) refl refl
+    (three_step a b c 62 62 61 p.ShiftRightAssign punct None (a == 62 && b == 62 && c == 61) refl refl (λ e. absurd cc)))
+    found
 
 pub punct_text : (text : List ℕ) (punct : Punct) → punctuator text ≡ Some punct → text ≡ punct_spelling punct
 punct_text [] punct found = absurd cc

@@ -1,5 +1,5 @@
 -- What is spelled, as clauses say it.
-use Rattle.std.proofs.Common.{◌≡◌, ℕ, suc, ◌<◌, Fits, w8, List, [], ◌∷◌, length, get_or, Result, Ok, Err, arith}
+use Rattle.std.proofs.Common.{◌≡◌, ℕ, suc, ◌<◌, Fits, w8, List, [], ◌∷◌, get_or, Result, Ok, Err, arith}
 use Rattle.std.specs.Result.{IfOk}
 use Rattle.c_tokens.specs.declared.tokens.TokenKind.{TokenKind}
 use Rattle.c_tokens.specs.Pieces.{Spells}

@@ -1,11 +1,11 @@
 -- What a byte string that is a token has: a kind of a lexed token, and no newline.
-use Rattle.std.proofs.Common.{◌≡◌, ℕ, zero, suc, ◌+◌, ◌-◌, ◌*◌, ◌^◌, ◌<◌, ◌≤◌, ◌==◌, ◌&&◌, ◌||◌, not, nat_lt, Bool, true, false, if◌then◌else◌, List, [], ◌∷◌, ◌++◌, length, take, drop, Option, Some, None, option_map, Result, Ok, Err, refl, sym, ap, ◌∙◌, subst, arith}
+use Rattle.std.proofs.Common.{◌≡◌, ℕ, suc, ◌+◌, ◌-◌, ◌*◌, ◌^◌, ◌<◌, ◌≤◌, ◌==◌, ◌&&◌, not, nat_lt, Bool, true, false, if◌then◌else◌, List, [], ◌∷◌, length, take, drop, Option, Some, None, option_map, Result, Ok, Err, refl, ap, ◌∙◌, subst, arith}
 use Rattle.std.specs.List.{list_all, prefix_len, take_while}
 use Rattle.std.specs.Char.{digit_value, is_digit, is_ascii_digit}
 use Rattle.std.specs.Str.Parse.{digits_value, digits_value_after}
 use Rattle.std.proofs.lemmas.Bool.{ltb-true, and_parts, eqb-true}
 use Rattle.std.proofs.lemmas.Bool.Decides.{nat_tests}
-use Rattle.fc_base.specs.declared.rules.Rule.TheVariants.{OpenText, OpenComment, BadEscape, LeftOutLiteral, BigNumber}
+use Rattle.fc_base.specs.declared.rules.Rule.TheVariants.{OpenText, LeftOutLiteral, BigNumber}
 use Rattle.c_tokens.specs.declared.puncts.Punct.{Punct}
 use Rattle.c_tokens.specs.declared.puncts.Punct.TheVariants as p
 use Rattle.c_tokens.specs.declared.tokens.TokenKind.{TokenKind}
@@ -16,7 +16,7 @@ use Rattle.c_tokens.specs.Bytes.{is_space, is_newline, begins_name, goes_on, is_
 use Rattle.c_tokens.specs.Puncts.{punct_spelling, punctuator}
 use Rattle.c_tokens.specs.Numbers.{in_number, all_in_number, is_ll, is_u, is_l, suffix_of, number_kind, integer, integer_in, is_hexadecimal, begins_zero, number}
 use Rattle.c_tokens.specs.Literals.{Shape, closed, unclosed, shape, Character, characters, values, body_of, string_of, constant_of, one_character, string, constant, header, literal}
-use Rattle.c_tokens.specs.Pieces.{alone, word, is_prefixed, number_from, comment, punct_piece, after_slash, after_dot, spelled, in_header, is_name, IsLexedKind}
+use Rattle.c_tokens.specs.Pieces.{alone, word, is_prefixed, number_from, comment, punct_piece, after_slash, after_dot, spelled, in_header, IsLexedKind}
 use Rattle.c_tokens.proofs.PunctLaw.{punct_text}
 
 abbrev pub on_line : List ℕ → Bool
@@ -200,7 +200,7 @@ integer_step base digits text s kind true w e f suffix pos is = let no_token : R
 integer_step base digits text s kind false true e f suffix pos is =
     let is' : Token (k.Number (digits_value base digits) (number_kind base s)) ≡ Token kind = rw (e, f) at is in
     lexed_at (k.Number (digits_value base digits) (number_kind base s)) kind (token_kind (k.Number (digits_value base digits) (number_kind base s)) kind is')
-      (ltb-true (digits_value base digits) (2 ^ 64) f, suffix_longs text s suffix, λ t. pos t e)
+    (ltb-true (digits_value base digits) (2 ^ 64) f, suffix_longs text s suffix, λ t. pos t e)
 integer_step base digits text s kind false false e f suffix pos is = let no_token : Refused BigNumber 0 ≡ Token kind = rw (e, f) at is in absurd cc
 
 integer_facts : (base : ℕ) (digits text : List ℕ) (o : Option (Bool × ℕ)) (kind : TokenKind) → suffix_of text ≡ o → ((base == 10) ≡ true → is_empty digits ≡ false → 0 < digits_value base digits) → integer base digits o ≡ Token kind → IsLexedKind kind

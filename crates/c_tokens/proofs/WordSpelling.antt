@@ -1,12 +1,11 @@
 -- A name is spelled by itself, a punctuator by its bytes.
-use Rattle.std.proofs.Common.{◌≡◌, ℕ, Bool, true, false, List, [], ◌∷◌, Option, Some, None, option_map, refl, ap, ◌∙◌, arith}
+use Rattle.std.proofs.Common.{◌≡◌, ℕ, true, false, List, [], ◌∷◌, Some, refl, arith}
 use Rattle.std.specs.List.{list_all}
 use Rattle.std.proofs.lemmas.Bool.{and_parts}
 use Rattle.std.proofs.lemmas.Bool.Decides.{nat_tests}
 use Rattle.c_tokens.specs.declared.puncts.Punct.{Punct}
 use Rattle.c_tokens.specs.declared.puncts.Punct.TheVariants as p
 use Rattle.c_tokens.specs.declared.tokens.TokenKind.TheVariants as k
-use Rattle.c_tokens.specs.declared.pieces.Piece.{Piece}
 use Rattle.c_tokens.specs.declared.pieces.Piece.TheVariants.{Token}
 use Rattle.c_tokens.specs.Bytes.{is_space, is_newline, begins_name, goes_on}
 use Rattle.c_tokens.specs.Puncts.{punct_spelling, operator, one_byte, with_assign, doubled}
@@ -23,6 +22,7 @@ spells_name (b ∷ bs) named =
   where
     blank : (b : ℕ) → begins_name b ≡ true → is_space b ≡ false
     blank b e = grind (arith, nat_tests)
+
     line : (b : ℕ) → begins_name b ≡ true → is_newline b ≡ false
     line b e = grind (arith, nat_tests)
 

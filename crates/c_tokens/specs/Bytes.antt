@@ -1,6 +1,6 @@
 -- Classes of bytes (C11 5.2.1 and 6.4).
-use Rattle.std.specs.Prelude.{ℕ, Bool, true, false, not, ◌==◌, ◌&&◌, ◌||◌, List, [], ◌∷◌}
-use Rattle.std.specs.Char.{is_ascii_digit, is_ascii_alphabetic, is_ascii_alphanumeric}
+use Rattle.std.specs.Prelude.{ℕ, Bool, true, false, ◌==◌, ◌||◌, List, [], ◌∷◌}
+use Rattle.std.specs.Char.{is_ascii_alphabetic, is_ascii_alphanumeric}
 
 -- space, tab, vertical tab and form feed; the newline is white space too, and has a test of its own
 abbrev pub is_space : ℕ → Bool

@@ -11,12 +11,10 @@ ghost use Rattle.c_tokens.specs.Puncts.{punct_spelling, punctuator};
 pub fn kinds_of_tokens()
     ensures { (after_include : Bool) (text : List ℕ) (kind : TokenKind) →
         spelled after_include text ≡ Some (Token kind) → IsLexedKind kind }
-{
-}
+{}
 
 /// A punctuator is spelled in one way.
 pub fn spellings_of_punctuators()
     ensures only { (text : List ℕ) (punct : Punct) → punctuator text ≡ Some punct → text ≡ punct_spelling punct }
     ensures each { (punct : Punct) → punctuator (punct_spelling punct) ≡ Some punct }
-{
-}
+{}

@@ -27,7 +27,12 @@ fn octal_digits(alloc: Global, mut value: u64) -> Result<Vec<u8>, AllocError>
 }
 
 /// Decimal digits, or octal ones behind a zero.
-fn push_digits(alloc: Global, out: &mut Vec<u8>, value: u64, decimal: bool) -> Result<(), AllocError>
+fn push_digits(
+    alloc: Global,
+    out: &mut Vec<u8>,
+    value: u64,
+    decimal: bool,
+) -> Result<(), AllocError>
     ensures { OnOk result (out.new.items ≡ out.old.items ++ digits_text decimal value) }
 {
     if decimal {
@@ -135,4 +140,63 @@ pub fn spelling(alloc: Global, token: &Token) -> Result<Text, NoMemory>
 {
     let bytes = spelling_bytes(alloc, &token.kind)?;
     Text::from_bytes(alloc, &bytes)
+}
+
+#[cfg(test)]
+mod tests {
+    use super::*;
+    use crate::puncts::Punct;
+    use fc_base::Place;
+    use std::test::Fail;
+
+    fn spelled(alloc: Global, kind: TokenKind) -> Result<Text, Fail>
+        requires { IsLexedKind kind }
+    {
+        let place = Place { line: 1, col: 1 };
+        let token = Token {
+            kind,
+            place,
+            starts_line: true,
+            spaced: false,
+        };
+        let text = spelling(alloc, &token)?;
+        Ok(text)
+    }
+
+    #[test]
+    fn spellings(rt: HostRuntime) -> Result<(), Fail> {
+        let alloc = rt.alloc();
+        let name = TokenKind::Name(Text::from_bytes(alloc, b"x_1")?);
+        assert_eq!(rt; spelled(alloc, name)?.bytes(), b"x_1".as_slice());
+        let kind = NumberKind {
+            decimal: true,
+            unsigned: true,
+            longs: 2,
+        };
+        let decimal = TokenKind::Number { value: 10, kind };
+        assert_eq!(rt; spelled(alloc, decimal)?.bytes(), b"10ull".as_slice());
+        let kind = NumberKind {
+            decimal: false,
+            unsigned: false,
+            longs: 0,
+        };
+        let zero = TokenKind::Number { value: 0, kind };
+        assert_eq!(rt; spelled(alloc, zero)?.bytes(), b"0".as_slice());
+        let octal = TokenKind::Number { value: 255, kind };
+        assert_eq!(rt; spelled(alloc, octal)?.bytes(), b"0377".as_slice());
+        let constant = TokenKind::CharConst(b'\'');
+        assert_eq!(rt; spelled(alloc, constant)?.bytes(), b"'\\''".as_slice());
+        let string = TokenKind::Str(Text::from_bytes(alloc, b"a\0")?);
+        assert_eq!(rt; spelled(alloc, string)?.bytes(), b"\"a\\000\"".as_slice());
+        let punct = TokenKind::Punct(Punct::ShiftLeftAssign);
+        assert_eq!(rt; spelled(alloc, punct)?.bytes(), b"<<=".as_slice());
+        let header_name = TokenKind::HeaderName(Text::from_bytes(alloc, b"a.h")?);
+        assert_eq!(rt; spelled(alloc, header_name)?.bytes(), b"<a.h>".as_slice());
+        let header = TokenKind::Header(HeaderId::Stdio);
+        assert_eq!(rt;
+            spelled(alloc, header)?.bytes(),
+            b"#include <stdio.h>".as_slice()
+        );
+        Ok(())
+    }
 }

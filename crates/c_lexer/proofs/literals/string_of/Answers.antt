@@ -1,4 +1,3 @@
-use Rattle.std.proofs.Common.{arith}
 use Rattle.c_lexer.proofs.LiteralLemmas.{step_bad, step_value, step_within, step_over}
 use Rattle.c_lexer.proofs.literals.string_of.Goals as goal
 
@@ -9,8 +8,8 @@ returns-in_default c =
 pub loop-at-preserved : goal.loop-at-preserved
 loop-at-preserved c = record {
   owed = step_value c.args.body.now c.rest_from.result.now c.loop-at.bytes.items c.push.new.self.items c.loop-at.at c.in-Some.b c.character-size.result c.loop-at-test.true c.rest_from.ensures c.character-size.ensures.value c.in-Some.is
-    (c.in_ok-push.ensures {u = tt}).items c.loop-at.invariant.owed;
-  within = step_within c.args.body.now c.rest_from.result.now c.loop-at.at c.character-size.result.0 c.loop-at.invariant.within c.rest_from.ensures c.character-size.ensures.within.1
+      (c.in_ok-push.ensures {u = tt}).items c.loop-at.invariant.owed;
+  within = step_within c.args.body.now c.rest_from.result.now c.loop-at.at c.character-size.result.0 c.loop-at.invariant.within c.rest_from.ensures c.character-size.ensures.within.1;
 }
 
 pub returns : goal.returns

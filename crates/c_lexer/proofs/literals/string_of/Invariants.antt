@@ -5,7 +5,7 @@ use Rattle.c_lexer.proofs.literals.string_of.Given as goal
 abbrev pub invariant-loop-at : goal.invariant-loop-at
 invariant-loop-at l = record {
   owed : with_front l.bytes.items (left_of l.body l.at) ≡ left_of l.body 0;
-  within : l.at ≤ length l.body
+  within : l.at ≤ length l.body;
 }
 
 abbrev pub decreases-loop-at : goal.decreases-loop-at

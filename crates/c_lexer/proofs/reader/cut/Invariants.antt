@@ -8,7 +8,7 @@ abbrev pub invariant-loop-at : goal.invariant-loop-at
 invariant-loop-at l = record {
   owed : after_all l.tokens.items (read l.state 0 (drop l.at l.bytes) (drop l.at l.places)) ≡ read (state Start false) 0 l.bytes l.places;
   within : l.at ≤ length l.bytes;
-  few : length l.tokens.items ≤ token_limit
+  few : length l.tokens.items ≤ token_limit;
 }
 
 abbrev pub decreases-loop-at : goal.decreases-loop-at

@@ -1,4 +1,3 @@
-use Rattle.std.proofs.Common.{sym, ◌∙◌, arith}
 use Rattle.c_tokens.specs.declared.tokens.TokenKind.TheVariants as k
 use Rattle.c_tokens.proofs.LiteralSpelling.{spells_header}
 use Rattle.c_tokens.proofs.NumberSpelling.{spells_number}
