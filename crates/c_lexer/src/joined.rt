@@ -34,22 +34,20 @@ pub fn join_lines(alloc: Global, mut bytes: &[u8]) -> Result<Joined, AllocError>
     let mut place = Place { line: 1, col: 1 };
     let mut is_joined = false;
     while let [b, rest @ ..] = bytes {
+        let next_line = Place {
+            line: place.line + 1,
+            col: 1,
+        };
         if is_joined {
             is_joined = false;
-            place = Place {
-                line: place.line + 1,
-                col: 1,
-            };
+            place = next_line;
         } else if *b == b'\\' && begins_line(rest) {
             is_joined = true;
         } else {
             left.push(*b)?;
             places.push(place)?;
             place = if *b == b'\n' {
-                Place {
-                    line: place.line + 1,
-                    col: 1,
-                }
+                next_line
             } else {
                 Place {
                     line: place.line,
