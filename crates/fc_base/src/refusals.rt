@@ -1,7 +1,11 @@
 //! Where and why a source is refused.
 
+ghost use Rattle.std.specs.Prelude.{◌≡◌};
+ghost use Rattle.fc_base.specs.declared.refusals.Fault.TheVariants.{NoMemory as MemoryFault};
+
 use crate::faults::NoMemory;
 use crate::rules::Rule;
+use std::alloc::{AllocError, AllocFailed};
 
 /// A line and a column of a source, both from 1. Columns count bytes.
 #[derive(Clone, Copy, Debug, PartialEq, Eq)]
@@ -22,4 +26,28 @@ pub struct Refusal {
 pub enum Fault {
     Refused(Refusal),
     NoMemory,
+}
+
+impl From<AllocError> for Fault {
+    ghost from_gives = { λ _ e. e ≡ MemoryFault };
+
+    fn from(_: AllocError) -> Fault {
+        Fault::NoMemory
+    }
+}
+
+impl<T: Drop> From<AllocFailed<T>> for Fault {
+    ghost from_gives = { λ _ e. e ≡ MemoryFault };
+
+    fn from(_: AllocFailed<T>) -> Fault {
+        Fault::NoMemory
+    }
+}
+
+impl From<NoMemory> for Fault {
+    ghost from_gives = { λ _ e. e ≡ MemoryFault };
+
+    fn from(_: NoMemory) -> Fault {
+        Fault::NoMemory
+    }
 }

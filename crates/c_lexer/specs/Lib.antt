@@ -1,0 +1,7 @@
+pub mod Places
+pub mod Longest
+pub mod Lexed
+pub mod Runs
+pub mod Fronts
+pub mod Reading
+pub mod Respelled

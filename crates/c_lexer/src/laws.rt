@@ -1,0 +1,18 @@
+//! Laws of lexed texts.
+
+ghost use Rattle.std.specs.Prelude.{ℕ, List, Option};
+ghost use Rattle.c_tokens.specs.declared.pieces.Piece.{Piece};
+ghost use Rattle.c_tokens.specs.declared.tokens.TokenKind.{TokenKind};
+ghost use Rattle.c_tokens.specs.Pieces.{Spells};
+ghost use Rattle.c_lexer.specs.Longest.{LongestFront, longest};
+ghost use Rattle.c_lexer.specs.Respelled.{IsReadAs};
+
+/// What `longest` finds is the longest front: the test takes it, and takes no longer one.
+pub fn longest_fronts()
+    ensures { (f : List ℕ → Option Piece) (text : List ℕ) → LongestFront f text (longest f text) }
+{}
+
+/// A spelling is read as one token of its kind.
+pub fn readings_of_spellings()
+    ensures { (text : List ℕ) (kind : TokenKind) → Spells text kind → IsReadAs text kind }
+{}

@@ -1,0 +1,18 @@
+//! A source cut into its tokens (C11 6.4).
+#![tactic(auto)]
+
+mod bytes;
+mod escapes;
+mod joined;
+mod laws;
+mod literals;
+mod numbers;
+mod pieces;
+mod puncts;
+mod reader;
+
+pub use laws::{longest_fronts, readings_of_spellings};
+pub use reader::tokens;
+
+#[cfg(test)]
+mod tests;

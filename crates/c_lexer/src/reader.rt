@@ -1,0 +1,176 @@
+//! Bytes into tokens.
+
+ghost use Rattle.std.specs.Prelude.{◌≡◌, ◌≤◌, ◌<◌, ◌^◌, length, drop, slice_index_or, false, All, IfOk};
+ghost use Rattle.fc_base.specs.declared.refusals.Place.{Place};
+ghost use Rattle.c_tokens.specs.Pieces.{IsLexedKind};
+ghost use Rattle.c_lexer.specs.Lexed.{lexed, Gives, outcome_of, token_limit, is_hash, is_include};
+ghost use Rattle.c_lexer.specs.Reading.{line_after, is_start, is_after_include, state, read_piece, read, Adds};
+ghost use Rattle.c_lexer.specs.declared.reader.Line.TheVariants.{Start};
+
+use crate::bytes::rest_from;
+use crate::joined::join_lines;
+use crate::pieces::piece;
+use c_tokens::{Piece, Punct, Token, TokenKind};
+use fc_base::{Fault, Place, Refusal, Rule};
+use std::alloc::Global;
+
+/// How many tokens a source may have.
+const TOKEN_LIMIT: usize = 1_000_000;
+
+/// What a line holds before a place: no token, a `#`, a `#` and `include`, or anything else.
+#[derive(Clone, Copy, Debug, PartialEq, Eq)]
+enum Line {
+    Start,
+    Hash,
+    Include,
+    Other,
+}
+
+/// What the tokens before a place leave: the line so far, and whether white space or a comment stands right before.
+#[derive(Clone, Copy, Debug, PartialEq, Eq)]
+struct State {
+    line: Line,
+    spaced: bool,
+}
+
+fn is_hash(kind: &TokenKind) -> bool
+    ensures { result ≡ is_hash kind.now }
+{
+    matches!(kind, TokenKind::Punct(Punct::Hash))
+}
+
+fn is_include(kind: &TokenKind) -> bool
+    ensures { result ≡ is_include kind.now }
+{
+    match kind {
+        TokenKind::Name(name) => name.bytes() == b"include".as_slice(),
+        _ => false,
+    }
+}
+
+impl Line {
+    /// The line behind one more token.
+    fn after(self, kind: &TokenKind) -> Line
+        ensures { result ≡ line_after self kind.now }
+    {
+        match self {
+            Line::Start if is_hash(kind) => Line::Hash,
+            Line::Hash if is_include(kind) => Line::Include,
+            _ => Line::Other,
+        }
+    }
+
+    fn is_start(self) -> bool
+        ensures { result ≡ is_start self }
+    {
+        self == Line::Start
+    }
+
+    /// Here a `<` opens a header name.
+    fn is_after_include(self) -> bool
+        ensures { result ≡ is_after_include self }
+    {
+        self == Line::Include
+    }
+}
+
+fn refused(rule: Rule, place: Place) -> Fault
+    ensures { result ≡ Fault.Refused (record { rule = rule; place = place }) }
+{
+    Fault::Refused(Refusal { rule, place })
+}
+
+/// The place with this offset, or else this one.
+fn place_at(places: &[Place], offset: usize, place: Place) -> Place
+    ensures { result ≡ slice_index_or places.now offset place }
+{
+    if offset < places.len() {
+        places[offset]
+    } else {
+        place
+    }
+}
+
+/// Adds the token of a piece at the front of these places, where it has one.
+fn add(
+    tokens: &mut Vec<Token>,
+    state: State,
+    piece: Piece,
+    place: Place,
+    places: &[Place],
+) -> Result<State, Fault>
+    requires { length tokens.old.items ≤ token_limit }
+    ensures { Adds result tokens.old.items tokens.new.items (read_piece state place places.now piece) }
+{
+    match piece {
+        Piece::Space => Ok(State {
+            line: state.line,
+            spaced: true,
+        }),
+        Piece::Newline => Ok(State {
+            line: Line::Start,
+            spaced: true,
+        }),
+        Piece::Refused(rule, offset) => Err(refused(rule, place_at(places, offset, place))),
+        Piece::Token(kind) => {
+            if tokens.len() == TOKEN_LIMIT {
+                return Err(refused(Rule::LimitTokens, place));
+            }
+            let line = state.line.after(&kind);
+            let starts_line = state.line.is_start();
+            tokens.push(Token {
+                kind,
+                place,
+                starts_line,
+                spaced: state.spaced,
+            })?;
+            Ok(State {
+                line,
+                spaced: false,
+            })
+        }
+    }
+}
+
+/// The places from this one on.
+fn places_from(places: &[Place], at: usize) -> &[Place]
+    requires { at ≤ length places.now }
+    ensures { result.now ≡ drop at places.now }
+{
+    &places[at..]
+}
+
+/// The tokens of a text with its lines joined.
+fn cut(alloc: Global, bytes: &[u8], places: &[Place]) -> Result<Vec<Token>, Fault>
+    requires bound { length bytes.now < 2 ^ 63 }
+    requires same { length places.now ≡ length bytes.now }
+    ensures { Gives (λ v. v.items) result (outcome_of (read (state Start false) 0 bytes.now places.now)) }
+{
+    let mut tokens = Vec::new(alloc);
+    let mut state = State {
+        line: Line::Start,
+        spaced: false,
+    };
+    let mut at = 0;
+    while at < bytes.len() {
+        let place = places[at];
+        let front = piece(alloc, rest_from(bytes, at), state.line.is_after_include())?;
+        let Some((size, piece)) = front else {
+            return Err(refused(Rule::BadByte, place));
+        };
+        state = add(&mut tokens, state, piece, place, places_from(places, at))?;
+        at += size;
+    }
+    Ok(tokens)
+}
+
+/// The tokens of the bytes, or the first refusal.
+#[tactic(auto, unfolding(crate::specs::Lexed::lexed))]
+pub fn tokens(alloc: Global, bytes: &[u8]) -> Result<Vec<Token>, Fault>
+    requires { length bytes.now < 4294967295 }
+    ensures gives { Gives (λ v. v.items) result (lexed bytes.now) }
+    ensures kinds { IfOk result (λ v. All (λ t. IsLexedKind t.kind) v.items) }
+{
+    let joined = join_lines(alloc, bytes)?;
+    cut(alloc, &joined.bytes, &joined.places)
+}

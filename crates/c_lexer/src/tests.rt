@@ -1,0 +1,217 @@
+//! Sources, with the tokens or the refusal that C11 and the rules of the subset give them.
+
+use crate::tokens;
+use c_tokens::{Token, TokenKind};
+use fc_base::{Fault, Place, Refusal, Rule};
+use std::alloc::Global;
+use std::test::Fail;
+
+/// The kind as a text: a number with `d` where it is decimal, `u`, and its letters l; a literal's bytes as numbers.
+fn push_kind(out: &mut String, kind: &TokenKind) -> Result<(), Fail> {
+    match kind {
+        TokenKind::Name(name) => push_bytes(out, name.bytes()),
+        TokenKind::Number { value, kind } => {
+            let decimal = if kind.decimal { "d" } else { "" };
+            let unsigned = if kind.unsigned { "u" } else { "" };
+            write!(out, "{value}{decimal}{unsigned}{}", kind.longs)?;
+            Ok(())
+        }
+        TokenKind::CharConst(b) => {
+            write!(out, "'{b}'")?;
+            Ok(())
+        }
+        TokenKind::Str(bytes) => {
+            out.push('"')?;
+            for b in bytes.bytes() {
+                write!(out, "{b},")?;
+            }
+            out.push('"')?;
+            Ok(())
+        }
+        TokenKind::Punct(punct) => {
+            out.push_str(punct.spelling())?;
+            Ok(())
+        }
+        TokenKind::HeaderName(name) => {
+            out.push('<')?;
+            push_bytes(out, name.bytes())?;
+            out.push('>')?;
+            Ok(())
+        }
+        TokenKind::Header(header) => {
+            out.push_str(header.name())?;
+            Ok(())
+        }
+    }
+}
+
+fn push_bytes(out: &mut String, bytes: &[u8]) -> Result<(), Fail> {
+    for b in bytes {
+        out.push(char::from(*b))?;
+    }
+    Ok(())
+}
+
+/// The token with its place, `^` where it starts its line and `_` where it is spaced.
+fn push_token(out: &mut String, token: &Token) -> Result<(), Fail> {
+    push_kind(out, &token.kind)?;
+    write!(out, " {}:{}", token.place.line, token.place.col)?;
+    if token.starts_line {
+        out.push('^')?;
+    }
+    if token.spaced {
+        out.push('_')?;
+    }
+    out.push('\n')?;
+    Ok(())
+}
+
+fn shown(alloc: Global, source: &[u8]) -> Result<String, Fail> {
+    let mut out = String::new(alloc);
+    if source.len() < 4_294_967_295 {
+        match tokens(alloc, source) {
+            Ok(tokens) => {
+                for token in &tokens {
+                    push_token(&mut out, token)?;
+                }
+            }
+            Err(Fault::Refused(refusal)) => {
+                let Place { line, col } = refusal.place;
+                write!(out, "{} {line}:{col}", refusal.rule.name())?;
+            }
+            Err(Fault::NoMemory) => out.push_str("no memory")?,
+        }
+    }
+    Ok(out)
+}
+
+#[test]
+fn rows_of_tokens(rt: HostRuntime) -> Result<(), Fail> {
+    let rows: [(&[u8], &str); 20] = [
+        (b"", ""),
+        (b"a+++b", "a 1:1^\n++ 1:2\n+ 1:4\nb 1:5\n"),
+        (b"a---b", "a 1:1^\n-- 1:2\n- 1:4\nb 1:5\n"),
+        (b"<<=...->", "<<= 1:1^\n... 1:4\n-> 1:7\n"),
+        (b".. ##", ". 1:1^\n. 1:2\n## 1:4_\n"),
+        (b"a/**/b/*\n*/c//d\n e", "a 1:1^\nb 1:6_\nc 2:3_\ne 3:2^_\n"),
+        (b"re\\\nturn x", "return 1:1^\nx 2:6_\n"),
+        (b"+\\\n= 1", "+= 1:1^\n1d0 2:3_\n"),
+        (b"/* *\\\n/ a", "a 2:3^_\n"),
+        (b"'\\\\\nn' '\\\\\n\\'", "'10' 1:1^\n'92' 2:4_\n"),
+        (
+            b"'\\0' '\\377' '\\x7f' '\"' '\xff'",
+            "'0' 1:1^\n'255' 1:6_\n'127' 1:13_\n'34' 1:20_\n'255' 1:24_\n",
+        ),
+        (b"\"a\\n\\\"\\1234//\"", "\"97,10,34,83,52,47,47,\" 1:1^\n"),
+        (b"\"\" \"\x80\0\"", "\"\" 1:1^\n\"128,0,\" 1:4_\n"),
+        (
+            b"0 7u 07L 0xFll 9ULL 3LLu",
+            "00 1:1^\n7du0 1:3_\n71 1:6_\n152 1:10_\n9du2 1:16_\n3du2 1:21_\n",
+        ),
+        (
+            b"18446744073709551615 0x0ffffffffffffffff",
+            "18446744073709551615d0 1:1^\n184467440737095516150 1:22_\n",
+        ),
+        (
+            b" # /**/ include <a b\\>x<y",
+            "# 1:2^_\ninclude 1:9_\n<a b\\> 1:17_\nx 1:23\n< 1:24\ny 1:25\n",
+        ),
+        (
+            b"#include <>\n<a>",
+            "# 1:1^\ninclude 1:2\n<> 1:10_\n< 2:1^_\na 2:2\n> 2:3\n",
+        ),
+        (
+            b"x #include <a>",
+            "x 1:1^\n# 1:3_\ninclude 1:4\n< 1:12_\na 1:13\n> 1:14\n",
+        ),
+        (
+            b"#include \"a.h\"",
+            "# 1:1^\ninclude 1:2\n\"97,46,104,\" 1:10_\n",
+        ),
+        (b"u8 L\x0b\x0c\tU1", "u8 1:1^\nL 1:4_\nU1 1:8_\n"),
+    ];
+    for (source, want) in rows {
+        let got = shown(rt.alloc(), source)?;
+        assert_eq!(rt; got.as_str(), want);
+    }
+    Ok(())
+}
+
+#[test]
+fn rows_of_refusals(rt: HostRuntime) -> Result<(), Fail> {
+    let rows: [(&[u8], &str); 40] = [
+        (b"'\\400'", "bad-escape 1:2"),
+        (b"\"ab\\q\"", "bad-escape 1:4"),
+        (b"\"\\x\" \"\\8\"", "bad-escape 1:2"),
+        (b"'\\x100'", "bad-escape 1:2"),
+        (b"'\\\\\nq'", "bad-escape 1:2"),
+        (b"18446744073709551616", "big-number 1:1"),
+        (b"0x10000000000000000u", "big-number 1:1"),
+        (b"02000000000000000000000", "big-number 1:1"),
+        (b"\"a\n", "open-text 1:1"),
+        (b"\"\\q\n\"", "open-text 1:1"),
+        (b"'a\\'", "open-text 1:1"),
+        (b"\"a\\\\\n\n", "open-text 1:1"),
+        (b"#include <a\n>", "open-text 1:10"),
+        (b"int main(void) { return 'ab'; }", "left-out-literal 1:25"),
+        (b"1.5", "left-out-literal 1:1"),
+        (b" .5", "left-out-literal 1:2"),
+        (b"1..2", "left-out-literal 1:1"),
+        (b"0xe+1", "left-out-literal 1:1"),
+        (b"0x", "left-out-literal 1:1"),
+        (b"08", "left-out-literal 1:1"),
+        (b"0b1", "left-out-literal 1:1"),
+        (b"1lul", "left-out-literal 1:1"),
+        (b"1lL", "left-out-literal 1:1"),
+        (b"99999999999999999999x", "left-out-literal 1:1"),
+        (b"L'x'", "left-out-literal 1:1"),
+        (b"u8\"a\"", "left-out-literal 1:1"),
+        (b"U\"a", "left-out-literal 1:1"),
+        (b"x ''", "left-out-literal 1:3"),
+        (b"'\\q1'", "left-out-literal 1:1"),
+        (b"/* x", "open-comment 1:1"),
+        (b"a /\\\n* x *\\\n", "open-comment 1:3"),
+        (b"/*/", "open-comment 1:1"),
+        (b"a\0", "bad-byte 1:2"),
+        (b"a\n\x80", "bad-byte 2:1"),
+        (b"a @", "bad-byte 1:3"),
+        (b"$ '", "bad-byte 1:1"),
+        (b"a\\", "bad-byte 1:2"),
+        (b"a;\r\n", "bad-byte 1:3"),
+        (b"\\u0041", "bad-byte 1:1"),
+        (b"1 '' @ \"", "left-out-literal 1:3"),
+    ];
+    for (source, want) in rows {
+        let got = shown(rt.alloc(), source)?;
+        assert_eq!(rt; got.as_str(), want);
+    }
+    Ok(())
+}
+
+/// How many tokens, or the refusal.
+fn counted(alloc: Global, source: &[u8]) -> Result<usize, Fault> {
+    if source.len() < 4_294_967_295 {
+        Ok(tokens(alloc, source)?.len())
+    } else {
+        Ok(0)
+    }
+}
+
+#[test]
+fn one_token_over_the_limit(rt: HostRuntime) -> Result<(), Fail> {
+    let mut source = vec![in rt.alloc(); b';'; 1_000_000]?;
+    assert_eq!(rt; counted(rt.alloc(), &source), Ok(1_000_000));
+    source.push(b' ')?;
+    source.push(b';')?;
+    source.push(b'@')?;
+    let place = Place {
+        line: 1,
+        col: 1_000_002,
+    };
+    let over = Err(Fault::Refused(Refusal {
+        rule: Rule::LimitTokens,
+        place,
+    }));
+    assert_eq!(rt; counted(rt.alloc(), &source), over);
+    Ok(())
+}

@@ -1,0 +1,14 @@
+-- Octal digits, the last one first.
+use Rattle.std.proofs.Common.{◌≡◌, ℕ, ◌/◌, ◌%◌, ◌<◌, List, [], ◌∷◌, ◌++◌, map, reverse, sym, ap, ◌∙◌, append_assoc, arith}
+use Rattle.std.specs.Int.Digits.{digits_of}
+use Rattle.std.proofs.lemmas.Int.Digits.{digits_of_step}
+use Rattle.std.proofs.lemmas.List.{map-append, reverse-append}
+use Rattle.c_tokens.specs.Spelling.{octal_digit}
+
+pub octal_step : (n m : ℕ) (digits : List ℕ) → 0 < n → map octal_digit (digits_of 8 n) ++ reverse digits ≡ map octal_digit (digits_of 8 m)
+    → map octal_digit (digits_of 8 (n / 8)) ++ reverse (digits ++ octal_digit (n % 8) ∷ []) ≡ map octal_digit (digits_of 8 m)
+octal_step n m digits positive owed =
+    ap (λ (r : List ℕ). map octal_digit (digits_of 8 (n / 8)) ++ r) (reverse-append digits (octal_digit (n % 8) ∷ []))
+    ∙ sym (append_assoc (map octal_digit (digits_of 8 (n / 8))) (octal_digit (n % 8) ∷ []) (reverse digits))
+    ∙ ap (λ (xs : List ℕ). xs ++ reverse digits) (sym (ap (map octal_digit) (digits_of_step 8 n (omega arith) positive) ∙ map-append octal_digit (digits_of 8 (n / 8)) (n % 8 ∷ [])))
+    ∙ owed

@@ -1,0 +1,25 @@
+use Rattle.c_tokens.specs.declared.tokens.TokenKind.TheVariants as k
+use Rattle.c_tokens.proofs.LiteralSpelling.{spells_header}
+use Rattle.c_tokens.proofs.NumberSpelling.{spells_number}
+use Rattle.c_tokens.proofs.WordSpelling.{spells_name, spells_punct}
+use Rattle.c_tokens.proofs.Spelled.{spells_so}
+use Rattle.c_tokens.proofs.spellings.spelling_bytes.Goals as goal
+
+pub returns-in-Name : goal.returns-in-Name
+returns-in-Name c =
+    let named = rw c.in-Name.is at c.requires in
+    rw c.in-Name.is (spells_so (λ v. v.items) c.from_slice.result _ (k.Name c.in-Name.name) (rw c.bytes.ensures at c.from_slice.ensures.items) (spells_name c.in-Name.name named))
+
+pub returns-in-Number : goal.returns-in-Number
+returns-in-Number c =
+    let lexed = rw c.in-Number.is at c.requires in
+    rw c.in-Number.is (spells_so (λ v. v.items) c.number.result _ (k.Number c.in-Number.value c.in-Number.kind) c.number.ensures (spells_number c.in-Number.value c.in-Number.kind lexed.0 lexed.1 lexed.2))
+
+pub returns-in-Punct : goal.returns-in-Punct
+returns-in-Punct c =
+    rw c.in-Punct.is (spells_so (λ v. v.items) c.from_slice-in-Punct.result _ (k.Punct c.in-Punct.punct) (rw (c.as_bytes.ensures.value, c.spelling.ensures) at c.from_slice-in-Punct.ensures.items) (spells_punct c.in-Punct.punct))
+
+pub returns-in-HeaderName : goal.returns-in-HeaderName
+returns-in-HeaderName c =
+    let lexed = rw c.in-HeaderName.is at c.requires in
+    rw c.in-HeaderName.is (spells_so (λ v. v.items) c.between.result _ (k.HeaderName c.in-HeaderName.name) (rw c.bytes-in-HeaderName.ensures at c.between.ensures) (spells_header c.in-HeaderName.name lexed))
