@@ -1,0 +1,15 @@
+//! The tree of a source as it is written, and the tree that typing makes of it.
+#![tactic(auto)]
+
+mod externals;
+mod nodes;
+mod operators;
+mod statements;
+
+pub use externals::{External, FileTree};
+pub use nodes::{
+    Aggregate, Attribute, BasicWord, Declarator, Enumerator, Expr, ExprKind, Identifier,
+    MemberDecl, Param, Params, PointerWord, Spec, TypeName,
+};
+pub use operators::{AssignOp, BinaryOp, PostfixOp, PrefixOp};
+pub use statements::{ForHead, Init, InitDeclarator, Stmt};
