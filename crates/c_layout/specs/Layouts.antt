@@ -1,6 +1,6 @@
 -- Sizes, alignments and offsets: C11 6.2.5, 6.2.8, 6.5.3.4 and 6.7.2.1, with the sizes of 64-bit Linux
 -- (System V ABI for AMD64, "Data Representation").
-use Rattle.std.specs.Prelude.{ℕ, zero, suc, ◌+◌, ◌-◌, ◌*◌, ◌/◌, max, Bool, true, false, if◌then◌else◌, nat_le, nat_lt, List, [], ◌∷◌, length, take, count_by, map, sum, slice_get, Option, None, Some, Result, Ok, Err, option_and_then}
+use Rattle.std.specs.Prelude.{ℕ, zero, suc, ◌+◌, ◌-◌, ◌*◌, ◌/◌, max, Bool, true, false, if◌then◌else◌, nat_le, nat_lt, IsTrue, IsSome, List, [], ◌∷◌, length, take, count_by, slice_get, Option, None, Some, Result, Ok, Err, option_and_then}
 use Rattle.std.specs.Option.{option_map}
 use Rattle.fc_base.specs.Widths.{width_bytes}
 use Rattle.c_layout.specs.declared.types.CType.{CType, out-CType, fold-CType}
@@ -82,11 +82,15 @@ module _ (tag_layout : ℕ → Option Layout) where
   abbrev pub last_layout : CType → Option Layout
   last_layout ctype = last_of ctype (out-CType ctype)
 
+  -- the layout of a member before others: only the last may be a flexible array
+  abbrev pub member_layout : Member → List Member → Option Layout
+  member_layout m [] = last_layout m.ctype
+  member_layout m (n ∷ ms) = type_layout m.ctype
+
   -- the layouts of members in order, none where one of them has no size
   abbrev pub member_layouts : List Member → Option (List Layout)
   member_layouts [] = Some []
-  member_layouts (m ∷ []) = option_map (λ l. l ∷ []) (last_layout m.ctype)
-  member_layouts (m ∷ n ∷ ms) = option_and_then (λ l. option_map (λ ls. l ∷ ls) (member_layouts (n ∷ ms))) (type_layout m.ctype)
+  member_layouts (m ∷ ms) = option_and_then (λ l. option_map (λ ls. l ∷ ls) (member_layouts ms)) (member_layout m ms)
 
   abbrev pub definition_layout : TagDef → Option Layout
   definition_layout def = if def.complete then option_map (aggregate def.is_union) (member_layouts def.members) else None
@@ -108,6 +112,10 @@ tag_layout tags = tag_layout_within (complete_count tags) tags
 -- the layout of a type, none where it has no size
 abbrev pub layout : List TagDef → CType → Option Layout
 layout tags = type_layout (tag_layout tags)
+
+-- If the definition is complete, each of its members has a size, or as a last flexible array its element.
+abbrev pub HaveSizes : List TagDef → TagDef → Type 0
+HaveSizes tags def = IsTrue def.complete → IsSome (member_layouts (tag_layout tags) def.members)
 
 -- the layout of a type whose size is within the limit
 abbrev pub judged : Option Layout → Result Layout LayoutFault

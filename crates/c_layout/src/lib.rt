@@ -1,8 +1,11 @@
 //! The types of C with their sizes and offsets, and the table of library functions.
 #![tactic(auto)]
 
+mod layouts;
+mod sizes;
 mod tags;
 mod types;
 
-pub use tags::{Member, TagDef};
+pub use layouts::{layout_of, offset_of};
+pub use tags::{Member, TagDef, Tags};
 pub use types::{CType, Layout, LayoutFault};
