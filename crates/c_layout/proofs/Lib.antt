@@ -5,4 +5,5 @@ pub mod Fair
 pub mod Grounds
 pub mod LaidOut
 pub mod Related
+pub mod Table
 pub mod TypeLayouts

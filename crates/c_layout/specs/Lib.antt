@@ -1,3 +1,4 @@
 pub mod Capped
 pub mod Entries
 pub mod Layouts
+pub mod Library
