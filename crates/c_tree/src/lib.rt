@@ -4,7 +4,9 @@
 mod externals;
 mod nodes;
 mod operators;
+mod programs;
 mod statements;
+mod typed;
 
 pub use externals::{External, FileTree};
 pub use nodes::{
@@ -12,4 +14,6 @@ pub use nodes::{
     MemberDecl, Param, Params, PointerWord, Spec, TypeName,
 };
 pub use operators::{AssignOp, BinaryOp, PostfixOp, PrefixOp};
+pub use programs::{Counts, DataDef, FnDef, Link, LocalDef, TypedTree};
 pub use statements::{ForHead, Init, InitDeclarator, Stmt};
+pub use typed::{Callee, TypedExpr, TypedForHead, TypedInit, TypedKind, TypedStmt};
