@@ -7,6 +7,7 @@ mod operators;
 mod programs;
 mod statements;
 mod typed;
+mod weights;
 
 pub use externals::{External, FileTree};
 pub use nodes::{
@@ -17,3 +18,4 @@ pub use operators::{AssignOp, BinaryOp, PostfixOp, PrefixOp};
 pub use programs::{Counts, DataDef, FnDef, Link, LocalDef, TypedTree};
 pub use statements::{ForHead, Init, InitDeclarator, Stmt};
 pub use typed::{Callee, TypedExpr, TypedForHead, TypedInit, TypedKind, TypedStmt};
+pub use weights::{frame_of, weight_of};

@@ -94,12 +94,13 @@ pub enum TypedInit {
     },
 }
 
-/// What stands first between the brackets of a `for`: an expression or none, or variables, each a `Declare`.
+/// What stands first between the brackets of a `for`: an expression or none that is evaluated, or the variables that
+/// are declared, each a `Declare`.
 #[cycle(typed_statements)]
 #[derive(Drop)]
 pub enum TypedForHead {
-    Expr(Option<TypedExpr>),
-    Declare(Items<TypedStmt>),
+    Evaluate(Option<TypedExpr>),
+    Variables(Items<TypedStmt>),
 }
 
 /// A statement, as `Stmt`.
