@@ -3,6 +3,7 @@
 ghost use Rattle.std.specs.Prelude.{◌≡◌, false, List, [], ◌∷◌, ◌++◌, length, slice_get, slice_set, IfOk, OnErr, IsSomeAnd};
 ghost use Rattle.std.specs.Option.{option_copied, option_map};
 ghost use Rattle.c_layout.specs.Layouts.{HaveSizes, definition_layout, last_layout, layout, member_layout, member_layouts, tag_layout};
+ghost use Rattle.c_layout.specs.Laws.{HasLayouts};
 ghost use Rattle.c_layout.specs.Capped.{capped, placed};
 
 use crate::sizes::{Placed, array, integer, open_array, pointer};
@@ -102,6 +103,13 @@ impl Tags {
     {
         let layout = self.definition_extent(&def);
         self.entries[tag as usize] = Entry { def, layout };
+    }
+
+    /// Each complete tag has a layout, that of its members: a law of every list of tags.
+    pub fn layouts_law(&self)
+        ensures { HasLayouts self.now }
+    {
+        let _entries = &self.entries;
     }
 
     /// The layout of a tag, its size cut at one past the limit.
