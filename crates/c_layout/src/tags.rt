@@ -1,6 +1,6 @@
 //! The structures and unions of a file by number, with the layouts of those that are complete.
 
-ghost use Rattle.std.specs.Prelude.{◌≡◌, false, List, [], ◌∷◌, ◌++◌, length, slice_get, slice_set, IfOk, OnErr, IsSomeAnd};
+ghost use Rattle.std.specs.Prelude.{◌≡◌, false, List, [], ◌∷◌, ◌++◌, length, slice_get, slice_set, ◌↔◌, IfOk, OnErr, IsSome, IsSomeAnd, IsTrue};
 ghost use Rattle.std.specs.Option.{option_copied, option_map};
 ghost use Rattle.c_layout.specs.Layouts.{HaveSizes, definition_layout, last_layout, layout, member_layout, member_layouts, tag_layout};
 ghost use Rattle.c_layout.specs.Laws.{HasLayouts};
@@ -103,6 +103,13 @@ impl Tags {
     {
         let layout = self.definition_extent(&def);
         self.entries[tag as usize] = Entry { def, layout };
+    }
+
+    /// Whether each member has a size, or for a last flexible array its element: what a complete definition wants.
+    pub fn have_sizes(&self, members: &[Member]) -> bool
+        ensures { IsTrue result ↔ IsSome (member_layouts (tag_layout self.now) members.now) }
+    {
+        self.place(members).is_some()
     }
 
     /// Each complete tag has a layout, that of its members: a law of every list of tags.

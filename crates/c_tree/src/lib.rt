@@ -6,6 +6,8 @@ mod nodes;
 mod operators;
 mod programs;
 mod statements;
+#[cfg(test)]
+mod tests;
 mod typed;
 mod weights;
 
