@@ -1,7 +1,7 @@
 -- How high the tree of a source is: the nodes of the longest way down. Declarations of members, enumerators,
 -- declarators with initialisers, parameters and attributes are parts of the nodes that hold them. This project's own.
-use Rattle.std.specs.Prelude.{ℕ, zero, suc, max, List, [], ◌∷◌, map, Option, None, Some}
-use Rattle.std.specs.Option.{option_map, option_map_or}
+use Rattle.std.specs.Prelude.{ℕ, suc, max, List, [], ◌∷◌, map, Option, None, Some}
+use Rattle.std.specs.Option.{option_map_or}
 use Rattle.c_tree.specs.declared.nodes.Declarator.{Declarator, fold-Declarator}
 use Rattle.c_tree.specs.declared.nodes.Declarator.TheOpen.{Declarator-F, ExprKind-F, Params-F, Spec-F, Enumerator-F, Expr-F, MemberDecl-F, Param-F, TypeName-F}
 use Rattle.c_tree.specs.declared.nodes.Expr.{Expr, fold-Expr}

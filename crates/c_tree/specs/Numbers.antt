@@ -1,5 +1,5 @@
 -- A typed tree whose numbers name what is there and whose counts are those of its bodies. This project's own.
-use Rattle.std.specs.Prelude.{◌≡◌, ℕ, zero, suc, ◌+◌, ◌<◌, ◌≤◌, ◌⊎◌, ⊤, Bool, true, false, List, length, All, slice_get, Option, None, Some, IfSome, IsSomeAnd}
+use Rattle.std.specs.Prelude.{◌≡◌, ℕ, ◌+◌, ◌<◌, ◌≤◌, ◌⊎◌, ⊤, Bool, true, false, List, length, All, slice_get, Some, IfSome, IsSomeAnd}
 use Rattle.std.specs.Option.{option_map}
 use Rattle.c_layout.specs.declared.types.CType.{CType, out-CType, every-CType}
 use Rattle.c_layout.specs.declared.types.CType.TheOpen.{CType-F}

@@ -1,5 +1,5 @@
 -- The weight and frame of a function, and the counts that they are read from. This project's own.
-use Rattle.std.specs.Prelude.{◌≡◌, ℕ, ◌+◌, ◌*◌, ◌^◌, min, Bool, true, false, if◌then◌else◌, List, [], ◌∷◌, count_by, sum_by, slice_get, Option, None, Some}
+use Rattle.std.specs.Prelude.{ℕ, ◌+◌, ◌*◌, ◌^◌, min, Bool, true, false, if◌then◌else◌, List, [], ◌∷◌, count_by, sum_by, slice_get, Option, None, Some}
 use Rattle.std.specs.Option.{option_map, option_map_or}
 use Rattle.c_layout.specs.declared.tags.TagDef.{TagDef}
 use Rattle.c_layout.specs.Layouts.{aligned, layout}
