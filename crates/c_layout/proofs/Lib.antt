@@ -1,0 +1,10 @@
+pub mod Capping
+pub mod Edits
+pub mod Extents
+pub mod Fair
+pub mod Grounds
+pub mod LaidOut
+pub mod Placements
+pub mod Related
+pub mod Table
+pub mod TypeLayouts

@@ -1,0 +1,40 @@
+//! The layouts of types and the offsets of members, within the limit on one type.
+
+ghost use Rattle.std.specs.Prelude.{◌≡◌};
+ghost use Rattle.c_layout.specs.Layouts.{layout_within_limit, offset};
+
+use crate::sizes::LARGEST_TYPE;
+use crate::tags::Tags;
+use crate::types::{CType, Layout, LayoutFault};
+
+/// The size and alignment of a type.
+pub fn layout_of(tags: &Tags, ctype: &CType) -> Result<Layout, LayoutFault>
+    ensures { result ≡ layout_within_limit tags.now ctype.now }
+{
+    match tags.extent(ctype) {
+        None => Err(LayoutFault::Incomplete),
+        Some(layout) if layout.size <= LARGEST_TYPE => Ok(layout),
+        Some(_) => Err(LayoutFault::TooBig),
+    }
+}
+
+/// Where a member stands in a structure or union, none where there is no such member, where it or one before it has
+/// no size, or where its place is past the limit.
+pub fn offset_of(tags: &Tags, tag: u32, member: usize) -> Option<u64>
+    ensures { result ≡ offset tags.now tag member }
+{
+    let def = tags.get(tag)?;
+    let members = def.members.as_slice();
+    if member >= members.len() {
+        return None;
+    }
+    let placed = tags.place(&members[..=member])?;
+    if def.is_union {
+        return Some(0);
+    }
+    if placed.last <= LARGEST_TYPE {
+        Some(placed.last)
+    } else {
+        None
+    }
+}

@@ -1,0 +1,23 @@
+//! The tree of a source as it is written, and the tree that typing makes of it.
+#![tactic(auto)]
+
+mod externals;
+mod nodes;
+mod operators;
+mod programs;
+mod statements;
+#[cfg(test)]
+mod tests;
+mod typed;
+mod weights;
+
+pub use externals::{External, FileTree};
+pub use nodes::{
+    Aggregate, Attribute, BasicWord, Declarator, Enumerator, Expr, ExprKind, Identifier,
+    MemberDecl, Param, Params, PointerWord, Spec, TypeName,
+};
+pub use operators::{AssignOp, BinaryOp, PostfixOp, PrefixOp};
+pub use programs::{Counts, DataDef, FnDef, Link, LocalDef, TypedTree};
+pub use statements::{ForHead, Init, InitDeclarator, Stmt};
+pub use typed::{Callee, TypedExpr, TypedForHead, TypedInit, TypedKind, TypedStmt};
+pub use weights::{frame_of, weight_of};
