@@ -1,0 +1,5 @@
+pub mod Values
+pub mod Trees
+pub mod Conditions
+pub mod Machine
+pub mod Reading

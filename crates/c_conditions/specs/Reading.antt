@@ -1,0 +1,32 @@
+-- What the functions of the code give, as plain data. No public contract names this.
+use Rattle.std.specs.Prelude.{◌≡◌, Bool, List, reverse, map, Option, Some, None, [], ◌∷◌}
+use Rattle.std.specs.Borrow.{Bor}
+use Rattle.c_tokens.specs.declared.TokenKind.{TokenKind}
+use Rattle.c_conditions.specs.declared.values.Value.{Value}
+use Rattle.c_conditions.specs.declared.machine.Frame.{Frame}
+use Rattle.c_conditions.specs.declared.machine.Phase.{Phase as Held}
+use Rattle.c_conditions.specs.declared.machine.Phase.TheVariants.{Wants, Has}
+use Rattle.c_conditions.specs.Machine.{Phase, wants, has, Operand}
+
+-- the frames from the inside out, where the innermost one is the last item
+abbrev pub frames : List Frame → List Frame
+frames = reverse
+
+abbrev pub phase_view : Held → List Frame → Phase
+phase_view (Wants e) fs = wants fs e
+phase_view (Has e v) fs = has fs e v
+
+abbrev pub StepsAs : Option Held → List Frame → Option Phase → Type 0
+StepsAs None fs m = m ≡ None
+StepsAs (Some h) fs m = m ≡ Some (phase_view h fs)
+
+abbrev pub ReducesAs : Option (Bool × Value) → List Frame → Option Operand → Type 0
+ReducesAs None fs m = m ≡ None
+ReducesAs (Some r) fs m = m ≡ Some (record { stack = fs; evaluated = r.0; value = r.1 })
+
+abbrev pub top_of : List Frame → Option Frame
+top_of [] = None
+top_of (f ∷ fs) = Some f
+
+abbrev pub now : List (Bor TokenKind) → List TokenKind
+now = map (λ k. k.now)

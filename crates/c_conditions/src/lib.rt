@@ -1,0 +1,9 @@
+//! The conditions of `if` and `elif` directives (C11 6.10.1).
+#![tactic(auto)]
+
+mod laws;
+mod machine;
+mod values;
+
+pub use laws::one_decision;
+pub use machine::condition;

@@ -1,0 +1,3 @@
+pub mod ReplacementLaws
+pub mod Totality
+pub mod ExpansionLaws

@@ -1,0 +1,9 @@
+pub mod Answers
+pub mod Macros
+pub mod Turns
+pub mod Replacement
+pub mod Sameness
+pub mod Definitions
+pub mod Lines
+pub mod Moves
+pub mod Expansion

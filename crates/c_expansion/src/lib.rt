@@ -1,0 +1,8 @@
+//! Preprocessing as a relation between lists of tokens (C11 6.10), and its laws.
+#![tactic(auto)]
+
+mod laws;
+mod words;
+
+pub use laws::{one_expansion, one_replacement};
+pub use words::{Group, Separator, Word};

@@ -1,0 +1,17 @@
+mod Alone
+mod Basics
+mod SoundParts
+mod Sound
+mod CompleteParts
+mod Complete
+mod Abstracts
+mod CompleteExprs
+mod SoundDeclarators
+mod CompleteDeclarators
+mod CompleteSpecs
+mod SoundStatements
+mod AloneStatements
+mod CompleteStatements
+mod Externals
+mod Files
+mod Uniqueness

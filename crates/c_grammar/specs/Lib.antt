@@ -1,0 +1,10 @@
+pub mod Terminals
+pub mod Specifiers
+pub mod Expressions
+pub mod Statements
+pub mod File
+pub mod Spans
+pub mod Reading
+pub mod ReadingDeclarators
+pub mod ReadingStatements
+pub mod ReadingFile

@@ -1,0 +1,8 @@
+//! The grammar of C (C11 6.5 to 6.9, without what is left out) as a relation between tokens and trees, and its laws.
+#![tactic(auto)]
+
+mod laws;
+mod terminals;
+
+pub use laws::{derives_one, expression_is_one, external_is_one};
+pub use terminals::{Brackets, Keyword, Role, Terminal};
