@@ -7,7 +7,7 @@ use Rattle.c_tokens.specs.declared.TokenKind.{TokenKind}
 use Rattle.c_conditions.specs.declared.values.Value.{Value}
 use Rattle.c_conditions.specs.Values.{is_true}
 use Rattle.c_conditions.specs.Machine.{Phase, wants, step, run, finish, decision}
-use Rattle.c_conditions.specs.Reading.{now}
+use Rattle.c_conditions.specs.Conditions.{now}
 
 pub stops : (line : List (Bor TokenKind)) (i : ℕ) (k : Bor TokenKind) (ph : Phase) → i < length line → k ≡ get_or line i k → step ph k.now ≡ None
     → run ph (now (drop i line)) ≡ run (wants [] true) (now line) → None ≡ decision (now line)

@@ -1,7 +1,5 @@
 -- What the functions of the code give, as plain data. No public contract names this.
-use Rattle.std.specs.Prelude.{◌≡◌, Bool, List, reverse, map, Option, Some, None, [], ◌∷◌}
-use Rattle.std.specs.Borrow.{Bor}
-use Rattle.c_tokens.specs.declared.TokenKind.{TokenKind}
+use Rattle.std.specs.Prelude.{◌≡◌, Bool, List, reverse, Option, Some, None, [], ◌∷◌}
 use Rattle.c_conditions.specs.declared.values.Value.{Value}
 use Rattle.c_conditions.specs.declared.machine.Frame.{Frame}
 use Rattle.c_conditions.specs.declared.machine.Phase.{Phase as Held}
@@ -27,6 +25,3 @@ ReducesAs (Some r) fs m = m ≡ Some (record { stack = fs; evaluated = r.0; valu
 abbrev pub top_of : List Frame → Option Frame
 top_of [] = None
 top_of (f ∷ fs) = Some f
-
-abbrev pub now : List (Bor TokenKind) → List TokenKind
-now = map (λ k. k.now)

@@ -1,4 +1,5 @@
--- The integers of a condition (C11 6.10.1p4): 64-bit numbers, signed or unsigned. Sums and products wrap.
+-- The integers of a condition (C11 6.10.1p4): 64-bit numbers, signed or unsigned. That sums and products of signed ones wrap is this
+-- project's own.
 use Rattle.std.specs.Prelude.{ℕ, ◌+◌, ◌-◌, ◌*◌, ◌/◌, ◌%◌, ◌^◌, ◌==◌, nat_lt, nat_le, bit_and, bit_or, bit_xor, Bool, false, not, ◌&&◌, ◌||◌, if◌then◌else◌, Option, Some, None}
 use Rattle.c_tokens.specs.declared.Punct.{Punct}
 use Rattle.c_conditions.specs.declared.values.Value.{Value}
@@ -11,11 +12,12 @@ is_true v = not (v.bits == 0)
 abbrev pub truth : Bool → Value
 truth b = record { bits = (if b then 1 else 0); unsigned = false }
 
--- an unsigned literal, or one that no signed number holds, is unsigned (C11 6.4.4.1)
+-- A literal with the suffix u is unsigned (C11 6.4.4.1), and so is one that no signed number holds; that a decimal one is so too is this
+-- project's own.
 abbrev pub literal : ℕ → Bool → Value
 literal n unsigned = record { bits = n; unsigned = unsigned || nat_le (2 ^ 63) n }
 
--- a character constant has the value of a signed char
+-- a character constant has the value of a signed char (C11 6.4.4.4p10; the sign is this project's own)
 abbrev pub character : ℕ → Value
 character byte = record { bits = (if nat_lt byte 128 then byte else 2 ^ 64 - 256 + byte); unsigned = false }
 
@@ -43,7 +45,7 @@ joint a b bits = record { bits = bits; unsigned = is_unsigned a b }
 abbrev pub is_less : Value → Value → Bool
 is_less a b = if is_unsigned a b || have_same_sign a.bits b.bits then nat_lt a.bits b.bits else is_negative a.bits
 
--- a division by 0, or of the least signed number by -1, is bad
+-- a division by 0 (C11 6.5.5p5), or of the least signed number by -1 (p6), is bad
 abbrev pub is_bad_division : Value → Value → Bool
 is_bad_division a b = b.bits == 0 || (not (is_unsigned a b) && (a.bits == 2 ^ 63 && b.bits == 2 ^ 64 - 1))
 
@@ -60,14 +62,14 @@ quotient a b = if is_unsigned a b then a.bits / b.bits else signed_quotient a.bi
 abbrev pub remainder : Value → Value → ℕ
 remainder a b = if is_unsigned a b then a.bits % b.bits else signed_remainder a.bits b.bits
 
--- a shift is by 0 to 63 places, and has the type of its left operand (C11 6.5.7)
+-- A shift has the type of its left operand (C11 6.5.7). It is by 0 to 63 places; that another count has no value is this project's own.
 abbrev pub is_bad_shift : Value → Bool
 is_bad_shift b = nat_le 64 b.bits
 
 abbrev pub shifted_left : Value → ℕ → ℕ
 shifted_left a n = (a.bits * 2 ^ n) % 2 ^ 64
 
--- a negative number keeps its sign: its complement is shifted
+-- a negative number keeps its sign: its complement is shifted (left to the implementation by C11 6.5.7p5)
 abbrev pub shifted_right : Value → ℕ → ℕ
 shifted_right a n = if not a.unsigned && is_negative a.bits then 2 ^ 64 - 1 - (2 ^ 64 - 1 - a.bits) / 2 ^ n else a.bits / 2 ^ n
 

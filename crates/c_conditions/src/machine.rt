@@ -1,11 +1,11 @@
 //! A condition, read from the left with the operators that wait for an operand on a stack. So no nesting is too deep.
 
 ghost use Rattle.std.specs.Prelude.{◌≡◌, IfOk, Option, Bool, option_map};
-ghost use Rattle.c_conditions.specs.Conditions.{Decides};
+ghost use Rattle.c_conditions.specs.Conditions.{Decides, now};
 ghost use Rattle.c_conditions.specs.Trees.{level_of};
 ghost use Rattle.c_conditions.specs.Values.{is_true};
-ghost use Rattle.c_conditions.specs.Machine.{decision, completes, applied, restored, reduced, on_prefix, on_operand, pull, on_colon, on_close, holds_comma, on_punct, on_operator, step, finish};
-ghost use Rattle.c_conditions.specs.Reading.{frames, phase_view, StepsAs, ReducesAs, top_of, now};
+ghost use Rattle.c_conditions.specs.Machine.{decision, completes, applied, restored, reduced, on_prefix, on_operand, pull, on_colon, on_close, holds_comma, on_punct, step, finish};
+ghost use Rattle.c_conditions.specs.Reading.{frames, phase_view, StepsAs, ReducesAs, top_of};
 
 use crate::values::{
     Value, character, chosen, combined, evaluates_right, is_true, literal, prefixed, truth,

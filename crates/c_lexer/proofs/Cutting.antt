@@ -17,7 +17,8 @@ use Rattle.c_lexer.specs.declared.reader.Line.TheVariants.{Start, Hash, Include,
 use Rattle.c_lexer.specs.declared.reader.State.{State}
 use Rattle.c_lexer.specs.Places.{Cell, bytes_of, places_of}
 use Rattle.c_lexer.specs.Longest.{longest, LongestFront}
-use Rattle.c_lexer.specs.Lexed.{Cut, all_cut, refused_at, after, token_at, is_hash, is_include, is_first, opens_header, with_piece, with_longest, cut, unless_refused, outcome_of, token_limit, GivesErr}
+use Rattle.c_tokens.specs.Tokens.{is_hash, token_limit}
+use Rattle.c_lexer.specs.Lexed.{Cut, all_cut, refused_at, after, token_at, is_include, is_first, opens_header, with_piece, with_longest, cut, unless_refused, outcome_of, GivesErr}
 use Rattle.c_lexer.specs.Fronts.{first_piece}
 use Rattle.c_lexer.specs.Reading.{line_of, line_after, is_start, is_after_include, state, read_piece, read_front, read, after_all, AddsErr}
 use Rattle.c_lexer.proofs.Longest.{longest_tells}

@@ -25,7 +25,8 @@ use Rattle.c_tokens.specs.Literals.{shape}
 use Rattle.c_lexer.specs.Fronts.{first_piece, first_other, first_word}
 use Rattle.c_lexer.specs.Places.{Cell, cell_at, place_at, placed, bytes_of, begins_line}
 use Rattle.c_lexer.specs.Longest.{longest, further, IsLongest, LongestFront}
-use Rattle.c_lexer.specs.Lexed.{Cut, all_cut, after, token_at, with_piece, with_longest, cut, is_first, opens_header, unless_refused, unless_over, outcome_of, token_limit, lexed, Gives}
+use Rattle.c_tokens.specs.Tokens.{token_limit}
+use Rattle.c_lexer.specs.Lexed.{Cut, all_cut, after, token_at, with_piece, with_longest, cut, is_first, opens_header, unless_refused, unless_over, outcome_of, lexed, Gives}
 use Rattle.c_lexer.specs.Respelled.{include_tokens, first_token, IsReadAs}
 use Rattle.c_lexer.proofs.Longest.{longest_tells}
 use Rattle.c_lexer.proofs.FrontLemmas.{longest_piece}

@@ -5,3 +5,4 @@ pub mod LiteralLemmas
 pub mod FrontLemmas
 pub mod Cutting
 pub mod LawLemmas
+pub mod Cuts

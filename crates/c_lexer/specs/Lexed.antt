@@ -1,4 +1,4 @@
--- A source cut into its longest pieces (C11 6.4), and its tokens or first refusal.
+-- The outcome that a source is lexed as, as a function that goes over the text once. `IsLexed` in Cuts says what it is.
 use Rattle.std.specs.Prelude.{◌≡◌, ℕ, zero, suc, ◌-◌, ◌&&◌, Bool, true, false, List, [], ◌∷◌, codes, slice_get, slice_index_or, Option, Some, None, Result, Ok, Err}
 use Rattle.std.specs.Str.{bytes_eq}
 use Rattle.fc_base.specs.declared.refusals.Place.{Place}
@@ -7,26 +7,17 @@ use Rattle.fc_base.specs.declared.refusals.Fault.{Fault}
 use Rattle.fc_base.specs.declared.refusals.Fault.TheVariants.{Refused as Refuses, NoMemory}
 use Rattle.fc_base.specs.declared.rules.Rule.{Rule}
 use Rattle.fc_base.specs.declared.rules.Rule.TheVariants.{BadByte, LimitTokens}
-use Rattle.c_tokens.specs.declared.puncts.Punct.{Punct}
-use Rattle.c_tokens.specs.declared.puncts.Punct.TheVariants as p
 use Rattle.c_tokens.specs.declared.tokens.Token.{Token}
 use Rattle.c_tokens.specs.declared.tokens.TokenKind.{TokenKind}
 use Rattle.c_tokens.specs.declared.tokens.TokenKind.TheVariants as k
 use Rattle.c_tokens.specs.declared.pieces.Piece.{Piece}
 use Rattle.c_tokens.specs.declared.pieces.Piece.TheVariants.{Space, Newline, Token as TokenPiece, Refused}
 use Rattle.c_tokens.specs.Pieces.{spelled}
+use Rattle.c_tokens.specs.Tokens.{token_limit, is_hash}
 use Rattle.c_lexer.specs.Places.{Cell, placed, bytes_of, places_of}
 use Rattle.c_lexer.specs.Longest.{longest}
 
 -- ---- header names
-
-abbrev pub is_hash_punct : Punct → Bool
-is_hash_punct p.Hash = true
-is_hash_punct other = false
-
-abbrev pub is_hash : TokenKind → Bool
-is_hash (k.Punct q) = is_hash_punct q
-is_hash other = false
 
 abbrev pub is_include : TokenKind → Bool
 is_include (k.Name name) = bytes_eq name (codes "include")
@@ -90,10 +81,6 @@ cut line spaced zero (c ∷ cs) =
 
 abbrev pub Outcome : Type 0
 Outcome = Result (List Token) Refusal
-
--- how many tokens a source may have
-abbrev pub token_limit : ℕ
-token_limit = 1000000
 
 abbrev pub unless_refused : List Token → Option Refusal → Outcome
 unless_refused tokens None = Ok tokens

@@ -11,7 +11,8 @@ use Rattle.c_tokens.specs.declared.pieces.Piece.TheVariants.{Space, Newline, Tok
 use Rattle.c_lexer.specs.declared.reader.Line.{Line}
 use Rattle.c_lexer.specs.declared.reader.Line.TheVariants.{Start, Hash, Include, Other}
 use Rattle.c_lexer.specs.declared.reader.State.{State}
-use Rattle.c_lexer.specs.Lexed.{Cut, all_cut, refused_at, after, token_at, is_hash, is_include, token_limit, outcome_of}
+use Rattle.c_tokens.specs.Tokens.{is_hash, token_limit}
+use Rattle.c_lexer.specs.Lexed.{Cut, all_cut, refused_at, after, token_at, is_include, outcome_of}
 use Rattle.c_lexer.specs.Fronts.{first_piece}
 
 -- the state of a line with these tokens, the last one first

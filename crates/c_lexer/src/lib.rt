@@ -11,7 +11,7 @@ mod pieces;
 mod puncts;
 mod reader;
 
-pub use laws::{longest_fronts, readings_of_spellings};
+pub use laws::{cuts_of_sources, longest_fronts, readings_of_spellings};
 pub use reader::tokens;
 
 #[cfg(test)]

@@ -2,7 +2,7 @@
 
 ghost use Rattle.std.specs.Prelude.{◌≡◌, ◌+◌, ◌*◌, ◌<◌, [], ◌∷◌, if◌then◌else◌, Some, None, true, false};
 ghost use Rattle.std.specs.Str.Parse.{digits_value};
-ghost use Rattle.c_tokens.specs.Numbers.{is_u, is_l, is_ll, suffix_of, integer, integer_in, is_hexadecimal, begins_zero, number};
+ghost use Rattle.c_tokens.specs.Numbers.{is_u, is_l, is_ll, suffix_of, integer_in, number};
 ghost use Rattle.c_lexer.specs.Runs.{fits_64};
 
 use crate::bytes::{Class, digit_value, run_length};

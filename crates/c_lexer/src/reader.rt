@@ -3,19 +3,18 @@
 ghost use Rattle.std.specs.Prelude.{◌≡◌, ◌≤◌, ◌<◌, ◌^◌, length, drop, slice_index_or, false, All, IfOk};
 ghost use Rattle.fc_base.specs.declared.refusals.Place.{Place};
 ghost use Rattle.c_tokens.specs.Pieces.{IsLexedKind};
-ghost use Rattle.c_lexer.specs.Lexed.{lexed, Gives, outcome_of, token_limit, is_hash, is_include};
+ghost use Rattle.c_tokens.specs.Tokens.{token_limit};
+ghost use Rattle.c_lexer.specs.Lexed.{lexed, Gives, outcome_of, is_include};
+ghost use Rattle.c_lexer.specs.Cuts.{IsLexing};
 ghost use Rattle.c_lexer.specs.Reading.{line_after, is_start, is_after_include, state, read_piece, read, Adds};
 ghost use Rattle.c_lexer.specs.declared.reader.Line.TheVariants.{Start};
 
 use crate::bytes::rest_from;
 use crate::joined::join_lines;
 use crate::pieces::piece;
-use c_tokens::{Piece, Punct, Token, TokenKind};
+use c_tokens::{Piece, TOKEN_LIMIT, Token, TokenKind};
 use fc_base::{Fault, Place, Refusal, Rule};
 use std::alloc::Global;
-
-/// How many tokens a source may have.
-const TOKEN_LIMIT: usize = 1_000_000;
 
 /// What a line holds before a place: no token, a `#`, a `#` and `include`, or anything else.
 #[derive(Clone, Copy, Debug, PartialEq, Eq)]
@@ -33,12 +32,6 @@ struct State {
     spaced: bool,
 }
 
-fn is_hash(kind: &TokenKind) -> bool
-    ensures { result ≡ is_hash kind.now }
-{
-    matches!(kind, TokenKind::Punct(Punct::Hash))
-}
-
 fn is_include(kind: &TokenKind) -> bool
     ensures { result ≡ is_include kind.now }
 {
@@ -54,7 +47,7 @@ impl Line {
         ensures { result ≡ line_after self kind.now }
     {
         match self {
-            Line::Start if is_hash(kind) => Line::Hash,
+            Line::Start if kind.is_hash() => Line::Hash,
             Line::Hash if is_include(kind) => Line::Include,
             _ => Line::Other,
         }
@@ -71,6 +64,14 @@ impl Line {
         ensures { result ≡ is_after_include self }
     {
         self == Line::Include
+    }
+}
+
+impl State {
+    fn new(line: Line, spaced: bool) -> State
+        ensures { result ≡ state line spaced }
+    {
+        State { line, spaced }
     }
 }
 
@@ -103,17 +104,11 @@ fn add(
     ensures { Adds result tokens.old.items tokens.new.items (read_piece state place places.now piece) }
 {
     match piece {
-        Piece::Space => Ok(State {
-            line: state.line,
-            spaced: true,
-        }),
-        Piece::Newline => Ok(State {
-            line: Line::Start,
-            spaced: true,
-        }),
+        Piece::Space => Ok(State::new(state.line, true)),
+        Piece::Newline => Ok(State::new(Line::Start, true)),
         Piece::Refused(rule, offset) => Err(refused(rule, place_at(places, offset, place))),
         Piece::Token(kind) => {
-            if tokens.len() == TOKEN_LIMIT {
+            if tokens.len() as u64 == TOKEN_LIMIT {
                 return Err(refused(Rule::LimitTokens, place));
             }
             let line = state.line.after(&kind);
@@ -124,10 +119,7 @@ fn add(
                 starts_line,
                 spaced: state.spaced,
             })?;
-            Ok(State {
-                line,
-                spaced: false,
-            })
+            Ok(State::new(line, false))
         }
     }
 }
@@ -147,10 +139,7 @@ fn cut(alloc: Global, bytes: &[u8], places: &[Place]) -> Result<Vec<Token>, Faul
     ensures { Gives (λ v. v.items) result (outcome_of (read (state Start false) 0 bytes.now places.now)) }
 {
     let mut tokens = Vec::new(alloc);
-    let mut state = State {
-        line: Line::Start,
-        spaced: false,
-    };
+    let mut state = State::new(Line::Start, false);
     let mut at = 0;
     while at < bytes.len() {
         let place = places[at];
@@ -168,6 +157,7 @@ fn cut(alloc: Global, bytes: &[u8], places: &[Place]) -> Result<Vec<Token>, Faul
 #[tactic(auto, unfolding(crate::specs::Lexed::lexed))]
 pub fn tokens(alloc: Global, bytes: &[u8]) -> Result<Vec<Token>, Fault>
     requires { length bytes.now < 4294967295 }
+    ensures cut { IsLexing (λ v. v.items) result bytes.now }
     ensures gives { Gives (λ v. v.items) result (lexed bytes.now) }
     ensures kinds { IfOk result (λ v. All (λ t. IsLexedKind t.kind) v.items) }
 {

@@ -87,7 +87,7 @@ fn shown(alloc: Global, source: &[u8]) -> Result<String, Fail> {
 
 #[test]
 fn rows_of_tokens(rt: HostRuntime) -> Result<(), Fail> {
-    let rows: [(&[u8], &str); 20] = [
+    let rows: [(&[u8], &str); 39] = [
         (b"", ""),
         (b"a+++b", "a 1:1^\n++ 1:2\n+ 1:4\nb 1:5\n"),
         (b"a---b", "a 1:1^\n-- 1:2\n- 1:4\nb 1:5\n"),
@@ -129,6 +129,34 @@ fn rows_of_tokens(rt: HostRuntime) -> Result<(), Fail> {
             "# 1:1^\ninclude 1:2\n\"97,46,104,\" 1:10_\n",
         ),
         (b"u8 L\x0b\x0c\tU1", "u8 1:1^\nL 1:4_\nU1 1:8_\n"),
+        (b"\"\\0001\"", "\"0,49,\" 1:1^\n"),
+        (b"//a\\\nb\nc", "c 3:1^_\n"),
+        (b"#\\\ninclude <a>", "# 1:1^\ninclude 2:1\n<a> 2:9_\n"),
+        (b"/*\n*/#include <a>", "# 2:3^_\ninclude 2:4\n<a> 2:12_\n"),
+        (
+            b"#define include <a>",
+            "# 1:1^\ndefine 1:2\ninclude 1:9_\n< 1:17_\na 1:18\n> 1:19\n",
+        ),
+        (
+            b"#include <a//b'c>",
+            "# 1:1^\ninclude 1:2\n<a//b'c> 1:10_\n",
+        ),
+        (b"1uLL 0XFuL", "1du2 1:1^\n15u1 1:6_\n"),
+        (b"%:<::>", "% 1:1^\n: 1:2\n< 1:3\n: 1:4\n: 1:5\n> 1:6\n"),
+        (b"u8 'x'", "u8 1:1^\n'120' 1:4_\n"),
+        (b"\"\\x000000000000000000000041\"", "\"65,\" 1:1^\n"),
+        (b"/", "/ 1:1^\n"),
+        (b".", ". 1:1^\n"),
+        (b"a/b", "a 1:1^\n/ 1:2\nb 1:3\n"),
+        (b"/*\r\0\x01*/a", "a 1:8^_\n"),
+        (b"xL'a'", "xL 1:1^\n'97' 1:3\n"),
+        (b"#include /*\n*/ <a>", "# 1:1^\ninclude 1:2\n<a> 2:4_\n"),
+        (b"\\\n\\\n\na", "a 4:1^_\n"),
+        (b"1+x", "1d0 1:1^\n+ 1:2\nx 1:3\n"),
+        (
+            b"\"\\?\\a\\b\\f\\n\\r\\t\\v\\'\"",
+            "\"63,7,8,12,10,13,9,11,39,\" 1:1^\n",
+        ),
     ];
     for (source, want) in rows {
         let got = shown(rt.alloc(), source)?;
@@ -139,7 +167,7 @@ fn rows_of_tokens(rt: HostRuntime) -> Result<(), Fail> {
 
 #[test]
 fn rows_of_refusals(rt: HostRuntime) -> Result<(), Fail> {
-    let rows: [(&[u8], &str); 40] = [
+    let rows: [(&[u8], &str); 51] = [
         (b"'\\400'", "bad-escape 1:2"),
         (b"\"ab\\q\"", "bad-escape 1:4"),
         (b"\"\\x\" \"\\8\"", "bad-escape 1:2"),
@@ -180,6 +208,17 @@ fn rows_of_refusals(rt: HostRuntime) -> Result<(), Fail> {
         (b"a;\r\n", "bad-byte 1:3"),
         (b"\\u0041", "bad-byte 1:1"),
         (b"1 '' @ \"", "left-out-literal 1:3"),
+        (b"\"a\\\nb\\q\"", "bad-escape 2:2"),
+        (b"'\\0001'", "left-out-literal 1:1"),
+        (b"1Ll", "left-out-literal 1:1"),
+        (b"0xu", "left-out-literal 1:1"),
+        (b"u8'x'", "left-out-literal 1:1"),
+        (b"\"\\xfffffffffffffffffffff\"", "bad-escape 1:2"),
+        (b"'", "open-text 1:1"),
+        (b"\"a", "open-text 1:1"),
+        (b"#if 0\ndon't\n#endif", "open-text 2:4"),
+        (b"1e+x", "left-out-literal 1:1"),
+        (b"'\\'", "open-text 1:1"),
     ];
     for (source, want) in rows {
         let got = shown(rt.alloc(), source)?;
@@ -201,12 +240,10 @@ fn counted(alloc: Global, source: &[u8]) -> Result<usize, Fault> {
 fn one_token_over_the_limit(rt: HostRuntime) -> Result<(), Fail> {
     let mut source = vec![in rt.alloc(); b';'; 1_000_000]?;
     assert_eq!(rt; counted(rt.alloc(), &source), Ok(1_000_000));
-    source.push(b' ')?;
     source.push(b';')?;
-    source.push(b'@')?;
     let place = Place {
         line: 1,
-        col: 1_000_002,
+        col: 1_000_001,
     };
     let over = Err(Fault::Refused(Refusal {
         rule: Rule::LimitTokens,

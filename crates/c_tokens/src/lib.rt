@@ -11,4 +11,4 @@ pub use laws::{kinds_of_tokens, spellings_of_punctuators};
 pub use pieces::Piece;
 pub use puncts::{HeaderId, Punct};
 pub use spellings::spelling;
-pub use tokens::{NumberKind, Token, TokenKind};
+pub use tokens::{NumberKind, TOKEN_LIMIT, Token, TokenKind};

@@ -1,7 +1,6 @@
 //! How a token is spelled.
 
 ghost use Rattle.std.specs.Prelude.{◌≡◌, ◌+◌, ◌++◌, ◌∷◌, ◌<◌, ◌≤◌, [], map, IfOk, OnOk};
-ghost use Rattle.std.specs.List.{flat_map};
 ghost use Rattle.std.specs.Int.Digits.{digits_of};
 ghost use Rattle.c_tokens.specs.Pieces.{IsLexedKind, Spells};
 ghost use Rattle.c_tokens.specs.Puncts.{include_line};
@@ -106,20 +105,23 @@ fn include_line(alloc: Global, header: HeaderId) -> Result<Vec<u8>, AllocError>
 }
 
 fn string(alloc: Global, bytes: &[u8]) -> Result<Vec<u8>, AllocError>
-    ensures { IfOk result (λ v. Spells v.items (TokenKind.Str bytes.now)) }
+    ensures spells { IfOk result (λ v. Spells v.items (TokenKind.Str bytes.now)) }
+    ensures exactly { IfOk result (λ v. v.items ≡ spelling_of (TokenKind.Str bytes.now)) }
 {
     quoted(alloc, b'"', bytes)
 }
 
 fn constant(alloc: Global, b: u8) -> Result<Vec<u8>, AllocError>
-    ensures { IfOk result (λ v. Spells v.items (TokenKind.CharConst b)) }
+    ensures spells { IfOk result (λ v. Spells v.items (TokenKind.CharConst b)) }
+    ensures exactly { IfOk result (λ v. v.items ≡ spelling_of (TokenKind.CharConst b)) }
 {
     quoted(alloc, b'\'', &[b])
 }
 
 fn spelling_bytes(alloc: Global, kind: &TokenKind) -> Result<Vec<u8>, AllocError>
     requires { IsLexedKind kind.now }
-    ensures { IfOk result (λ v. Spells v.items kind.now) }
+    ensures spells { IfOk result (λ v. Spells v.items kind.now) }
+    ensures exactly { IfOk result (λ v. v.items ≡ spelling_of kind.now) }
 {
     match kind {
         TokenKind::Name(name) => Vec::from_slice(alloc, name.bytes()),
@@ -132,11 +134,12 @@ fn spelling_bytes(alloc: Global, kind: &TokenKind) -> Result<Vec<u8>, AllocError
     }
 }
 
-/// A spelling of the token, which is read as the same kind where the token stands. An inclusion is spelled as its
+/// The spelling of the token, which is read as the same kind where the token stands. An inclusion is spelled as its
 /// line.
 pub fn spelling(alloc: Global, token: &Token) -> Result<Text, NoMemory>
     requires { IsLexedKind token.now.kind }
-    ensures { IfOk result (λ text. Spells text token.now.kind) }
+    ensures spells { IfOk result (λ text. Spells text token.now.kind) }
+    ensures exactly { IfOk result (λ text. text ≡ spelling_of token.now.kind) }
 {
     let bytes = spelling_bytes(alloc, &token.kind)?;
     Text::from_bytes(alloc, &bytes)

@@ -1,7 +1,13 @@
 //! A token with its place in the source.
 
+ghost use Rattle.std.specs.Prelude.{◌≡◌};
+ghost use Rattle.c_tokens.specs.Tokens.{is_hash};
+
 use crate::puncts::{HeaderId, Punct};
 use fc_base::{Place, Text};
+
+/// How many tokens a source may have.
+pub const TOKEN_LIMIT: u64 = 1_000_000;
 
 /// What the spelling of an integer literal says beside its value (C11 6.4.4.1): whether it is decimal, whether it
 /// has the suffix u, and the number of its letters l, from 0 to 2.
@@ -23,6 +29,15 @@ pub enum TokenKind {
     Punct(Punct),
     HeaderName(Text),
     Header(HeaderId),
+}
+
+impl TokenKind {
+    /// The punctuator `#`.
+    pub fn is_hash(&self) -> bool
+        ensures { result ≡ is_hash self.now }
+    {
+        matches!(self, TokenKind::Punct(Punct::Hash))
+    }
 }
 
 /// A token. It starts its line where no other token stands before it there, and is spaced where white space or a

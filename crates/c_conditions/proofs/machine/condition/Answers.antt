@@ -1,8 +1,7 @@
 use Rattle.std.proofs.Common.{◌≡◌, Option, Bool, Result, Ok, Err, IfOk, List, sym, ◌∙◌, subst}
 use Rattle.c_tokens.specs.declared.TokenKind.{TokenKind}
-use Rattle.c_conditions.specs.Conditions.{Decides}
+use Rattle.c_conditions.specs.Conditions.{Decides, now}
 use Rattle.c_conditions.specs.Machine.{decision}
-use Rattle.c_conditions.specs.Reading.{now}
 use Rattle.c_conditions.proofs.Decisions.{decides, decision_is}
 use Rattle.c_conditions.proofs.machine.condition.Goals as goal
 

@@ -1,6 +1,7 @@
 use Rattle.std.proofs.Common.{◌≡◌, [], true, drop}
 use Rattle.c_conditions.specs.Machine.{wants, run}
-use Rattle.c_conditions.specs.Reading.{frames, phase_view, now}
+use Rattle.c_conditions.specs.Reading.{frames, phase_view}
+use Rattle.c_conditions.specs.Conditions.{now}
 use Rattle.c_conditions.proofs.machine.decided.Given as goal
 
 abbrev pub invariant-loop-kind : goal.invariant-loop-kind

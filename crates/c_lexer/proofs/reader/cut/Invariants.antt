@@ -1,5 +1,5 @@
 use Rattle.std.proofs.Common.{length, ◌-◌, ◌≡◌, ◌≤◌, drop, false}
-use Rattle.c_lexer.specs.Lexed.{token_limit}
+use Rattle.c_tokens.specs.Tokens.{token_limit}
 use Rattle.c_lexer.specs.Reading.{state, read, after_all}
 use Rattle.c_lexer.specs.declared.reader.Line.TheVariants.{Start}
 use Rattle.c_lexer.proofs.reader.cut.Given as goal
