@@ -6,7 +6,8 @@ use Rattle.fc_base.specs.declared.Refusal.{Refusal}
 use Rattle.fc_base.specs.declared.Fault.{Fault}
 use Rattle.fc_base.specs.declared.Fault.TheVariants.{Refused, NoMemory}
 use Rattle.c_expansion.specs.Answers.{Answers}
-use Rattle.c_expansion.specs.Macros.{Name, Item, Piece, Macros, Argument, written, token_limit}
+use Rattle.c_tokens.specs.Tokens.{token_limit}
+use Rattle.c_expansion.specs.Macros.{HideSet, Item, Piece, Macros, Argument, written}
 use Rattle.c_expansion.specs.Turns.{Turn, becomes}
 use Rattle.c_expansion.specs.Replacement.{Outcome, after, replacing, hidden, argument_text, Expands, over, kept, refused_call, refused_argument, too_many, replaced, Substitutes, whole, own, refused, of_argument, Readies, absent, again, fails, first}
 
@@ -17,7 +18,7 @@ parts {X} {x} {x'} {c} {c'} g =
     (ap (λ (p : X × ℕ). p.0) same, ap (λ (p : X × ℕ). p.1) same)
 
 -- the same turn has the same parts
-moved_result : {ms : Macros} {depth count : ℕ} {place : Place} {t : Turn} {b b' : List Piece} {h h' : List Name} {a a' : List Argument} {r r' : List Item} {o : Outcome}
+moved_result : {ms : Macros} {depth count : ℕ} {place : Place} {t : Turn} {b b' : List Piece} {h h' : HideSet} {a a' : List Argument} {r r' : List Item} {o : Outcome}
     → t ≡ becomes b h a r → t ≡ becomes b' h' a' r' → Substitutes ms depth count place h' a' b' o → Substitutes ms depth count place h a b o
 moved_result {ms} {depth} {count} {place} {t} {b} {b'} {h} {h'} {a} {a'} {r} {r'} {o} e f s =
     let same_b : b' ≡ b = cc in
@@ -25,7 +26,7 @@ moved_result {ms} {depth} {count} {place} {t} {b} {b'} {h} {h'} {a} {a'} {r} {r'
     let same_a : a' ≡ a = cc in
     rw (← same_b, ← same_h, ← same_a) s
 
-moved_on : {ms : Macros} {depth : ℕ} {t : Turn} {b b' : List Piece} {h h' : List Name} {a a' : List Argument} {r r' new new' : List Item} {c c' : ℕ} {o : Outcome}
+moved_on : {ms : Macros} {depth : ℕ} {t : Turn} {b b' : List Piece} {h h' : HideSet} {a a' : List Argument} {r r' new new' : List Item} {c c' : ℕ} {o : Outcome}
     → t ≡ becomes b h a r → t ≡ becomes b' h' a' r' → ◌≡◌ {A = Outcome} (Ok (new, c)) (Ok (new', c'))
     → Expands ms depth (c' + length new') (new' ++ r') o → Expands ms depth (c + length new) (new ++ r) o
 moved_on {ms} {depth} {t} {b} {b'} {h} {h'} {a} {a'} {r} {r'} {new} {new'} {c} {c'} {o} e f g s =
@@ -34,7 +35,7 @@ moved_on {ms} {depth} {t} {b} {b'} {h} {h'} {a} {a'} {r} {r'} {new} {new'} {c} {
     let same_c : c' ≡ c = (parts g).1 in
     rw (← same_r, ← same_new, ← same_c) s
 
-moved_rest : {ms : Macros} {depth : ℕ} {place : Place} {hide : List Name} {b : List Piece} {a a' : List Argument} {c c' : ℕ} {o : Outcome}
+moved_rest : {ms : Macros} {depth : ℕ} {place : Place} {hide : HideSet} {b : List Piece} {a a' : List Argument} {c c' : ℕ} {o : Outcome}
     → ◌≡◌ {A = Result (List Argument × ℕ) Refusal} (Ok (a, c)) (Ok (a', c')) → Substitutes ms depth c' place hide a' b o → Substitutes ms depth c place hide a b o
 moved_rest {ms} {depth} {place} {hide} {b} {a} {a'} {c} {c'} {o} g s =
     let same_a : a' ≡ a = (parts g).0 in
@@ -82,7 +83,7 @@ mutual
   one_outcome (replaced e r le q) (too_many f s lt) = absurd (past_limit (sym (one_result r (moved_result e f s))) lt le)
   one_outcome (replaced e r le q) (replaced f s le' u) = one_outcome q (moved_on e f (one_result r (moved_result e f s)) u)
 
-  pub one_result : {ms : Macros} {depth count : ℕ} {place : Place} {hide : List Name} {args : List Argument} {body : List Piece} {a b : Outcome}
+  pub one_result : {ms : Macros} {depth count : ℕ} {place : Place} {hide : HideSet} {args : List Argument} {body : List Piece} {a b : Outcome}
       → Substitutes ms depth count place hide args body a → Substitutes ms depth count place hide args body b → a ≡ b
   one_result whole whole = refl
   one_result (own {place = place} {hide = hide} {kind = kind} {spaced = spaced} r) (own s) = ap (after (replacing place hide kind spaced ∷ [])) (one_result r s)

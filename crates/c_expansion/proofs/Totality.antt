@@ -7,7 +7,8 @@ use Rattle.std.proofs.lemmas.Option.{slice_get_within}
 use Rattle.std.proofs.lemmas.Bool.Decides.{nat_tests}
 use Rattle.fc_base.specs.declared.Place.{Place}
 use Rattle.fc_base.specs.declared.Refusal.{Refusal}
-use Rattle.c_expansion.specs.Macros.{Name, Item, Piece, plain, parameter, Meaning, Macros, Argument, written, expanded, token_limit, nesting_limit}
+use Rattle.c_tokens.specs.Tokens.{token_limit}
+use Rattle.c_expansion.specs.Macros.{Name, HideSet, Item, Piece, plain, parameter, Meaning, Macros, Argument, written, expanded, nesting_limit}
 use Rattle.c_expansion.specs.Turns.{Call, longer, another, action, Action, ends, parts, goes, by_action, call, arguments, right_number, Turn, stays, bad_call, becomes, called_with, called, opens_next, by_parameters, by_meaning, meaning_of, turn, with_name, intersection}
 use Rattle.c_expansion.specs.Replacement.{Outcome, after, replacing, hidden, argument_text, too_many_at, bad_call_at, Expands, over, kept, refused_call, refused_argument, too_many, replaced, Substitutes, whole, own, refused, of_argument, Readies, absent, again, fails, first}
 
@@ -106,17 +107,17 @@ module _ (ms : Macros) (depth : ℕ) where
       let so = deeper (omega arith) count ts in
       ready_by count args k ts e so.0 so.1 so.2
 
-  abbrev HasResult : ℕ → Place → List Name → List Argument → List Piece → Type 0
+  abbrev HasResult : ℕ → Place → HideSet → List Argument → List Piece → Type 0
   HasResult count place hide args body = (out : Outcome) × Substitutes ms depth count place hide args body out × Grows count out
 
-  result_by : (count : ℕ) (place : Place) (hide : List Name) (args : List Argument) (k : ℕ) (body : List Piece) → (o : Result (List Argument × ℕ) Refusal) → Readies ms depth count args k o → GrowsReady count (length args) o
+  result_by : (count : ℕ) (place : Place) (hide : HideSet) (args : List Argument) (k : ℕ) (body : List Piece) → (o : Result (List Argument × ℕ) Refusal) → Readies ms depth count args k o → GrowsReady count (length args) o
       → ((count' : ℕ) (args' : List Argument) → length args' ≡ length args → HasResult count' place hide args' body) → HasResult count place hide args (parameter k ∷ body)
   result_by count place hide args k body (Ok r) x g more =
       let so = more r.1 r.0 g.1 in
       (after (map (hidden hide) (argument_text (slice_get r.0 k))) so.0, of_argument x so.1, grows_after count (map (hidden hide) (argument_text (slice_get r.0 k))) so.0 (grows_from count r.1 so.0 g.0 so.2))
   result_by count place hide args k body (Err e) x g more = (Err e, refused x, tt)
 
-  result : (body : List Piece) (count : ℕ) (place : Place) (hide : List Name) (args : List Argument) → (0 < length args → Deeper ms depth) → HasResult count place hide args body
+  result : (body : List Piece) (count : ℕ) (place : Place) (hide : HideSet) (args : List Argument) → (0 < length args → Deeper ms depth) → HasResult count place hide args body
   result [] count place hide args deeper = (Ok ([], count), whole, omega arith)
   result (plain kind spaced ∷ body) count place hide args deeper =
       let so = result body count place hide args deeper in (after (replacing place hide kind spaced ∷ []) so.0, own so.1, grows_after count (replacing place hide kind spaced ∷ []) so.0 so.2)
@@ -136,7 +137,7 @@ abbrev Enough : Macros → ℕ → ℕ → Type 0
 Enough ms depth n = (count : ℕ) (ts : List Item) → 2 * (token_limit - count) + length ts < n → Has ms depth count ts
 
 module _ (ms : Macros) (depth n count : ℕ) (t : Item) (ts : List Item) (lt : 2 * (token_limit - count) + length (t ∷ ts) < suc n) (less : Enough ms depth n) where
-  total_new : (body : List Piece) (hide : List Name) (args : List Argument) (rest : List Item) → turn ms depth t ts ≡ becomes body hide args rest → length rest ≤ length ts → (r : List Item × ℕ)
+  total_new : (body : List Piece) (hide : HideSet) (args : List Argument) (rest : List Item) → turn ms depth t ts ≡ becomes body hide args rest → length rest ≤ length ts → (r : List Item × ℕ)
       → Substitutes ms depth count t.place hide args body (Ok r) → count ≤ r.1 → (v : Bool) → nat_le (r.1 + length r.0) token_limit ≡ v → Has ms depth count (t ∷ ts)
   total_new body hide args rest e short r s from true f =
       let m = fits (r.1 + length r.0) f in
@@ -144,7 +145,7 @@ module _ (ms : Macros) (depth n count : ℕ) (t : Item) (ts : List Item) (lt : 2
       (so.0, replaced e s m so.1, grows_from count (r.1 + length r.0) so.0 (omega arith) so.2)
   total_new body hide args rest e short r s from false f = (Err (too_many_at t.place), too_many e s (passes (r.1 + length r.0) f), tt)
 
-  total_made : (body : List Piece) (hide : List Name) (args : List Argument) (rest : List Item) → turn ms depth t ts ≡ becomes body hide args rest → length rest ≤ length ts → (out : Outcome)
+  total_made : (body : List Piece) (hide : HideSet) (args : List Argument) (rest : List Item) → turn ms depth t ts ≡ becomes body hide args rest → length rest ≤ length ts → (out : Outcome)
       → Substitutes ms depth count t.place hide args body out → Grows count out → Has ms depth count (t ∷ ts)
   total_made body hide args rest e short (Ok r) s g = total_new body hide args rest e short r s g (nat_le (r.1 + length r.0) token_limit) refl
   total_made body hide args rest e short (Err q) s g = (Err q, refused_argument e s, tt)

@@ -1,19 +1,18 @@
 -- What a `define` line defines (C11 6.10.3), and the macros that are there from the start or come with a header.
-use Rattle.std.specs.Prelude.{ℕ, Bool, true, false, not, ◌&&◌, if◌then◌else◌, List, [], ◌∷◌, map, Option, Some, None, option_map, option_and_then, codes}
-use Rattle.std.specs.List.{list_any, position_from}
+use Rattle.std.specs.Prelude.{ℕ, ◌==◌, Bool, true, false, not, ◌&&◌, if◌then◌else◌, List, [], ◌∷◌, map, Option, Some, None, option_map, option_and_then, codes}
+use Rattle.std.specs.List.{position}
 use Rattle.fc_base.specs.declared.Level.{Level}
 use Rattle.fc_base.specs.declared.Level.TheVariants.{Zero, Three}
 use Rattle.c_tokens.specs.declared.Punct.{Punct}
 use Rattle.c_tokens.specs.declared.Punct.TheVariants as punct
 use Rattle.c_tokens.specs.declared.HeaderId.{HeaderId}
 use Rattle.c_tokens.specs.declared.HeaderId.TheVariants as header
-use Rattle.c_tokens.specs.declared.NumberKind.{NumberKind}
 use Rattle.c_tokens.specs.declared.TokenKind.{TokenKind}
 use Rattle.c_tokens.specs.declared.TokenKind.TheVariants as kind
 use Rattle.c_tokens.specs.declared.Token.{Token}
 use Rattle.c_expansion.specs.declared.words.Separator.{Separator}
 use Rattle.c_expansion.specs.declared.words.Separator.TheVariants.{Last, Another, Neither}
-use Rattle.c_expansion.specs.Macros.{Name, same_name, Piece, plain, parameter, Meaning, opens}
+use Rattle.c_expansion.specs.Macros.{Name, same_name, has, Piece, plain, parameter, Meaning, opens}
 
 -- ---- a `define` line
 
@@ -66,17 +65,23 @@ abbrev pub parameters_of : List Token → Option Parameters
 parameters_of [] = None
 parameters_of (t ∷ ts) = by_first t ts (separator t.kind)
 
+-- no name stands twice (C11 6.10.3p6)
 abbrev pub are_distinct : List Name → Bool
 are_distinct [] = true
-are_distinct (name ∷ names) = not (list_any (same_name name) names) && are_distinct names
+are_distinct (name ∷ names) = not (has names name) && are_distinct names
+
+-- the parameters, none where a name stands twice
+abbrev pub distinct : Option Parameters → Option Parameters
+distinct None = None
+distinct (Some p) = if are_distinct p.names then Some p else None
 
 pub record Definition : Type 0 where
   pub name : Name
   pub parameters : Option (List Name)
   pub body : List Token
 
-abbrev pub with_parameters : Name → Parameters → Option Definition
-with_parameters name p = if are_distinct p.names then Some (record { name = name; parameters = Some p.names; body = p.rest }) else None
+abbrev pub with_parameters : Name → Parameters → Definition
+with_parameters name p = record { name = name; parameters = Some p.names; body = p.rest }
 
 abbrev pub opens_at_once : Token → Bool
 opens_at_once t = opens t.kind && not t.spaced
@@ -84,7 +89,7 @@ opens_at_once t = opens t.kind && not t.spaced
 -- the macro has parameters where an opening bracket follows its name at once
 abbrev pub defined_as : Name → List Token → Option Definition
 defined_as name [] = Some (record { name = name; parameters = None; body = [] })
-defined_as name (t ∷ ts) = if opens_at_once t then option_and_then (with_parameters name) (parameters_of ts) else Some (record { name = name; parameters = None; body = t ∷ ts })
+defined_as name (t ∷ ts) = if opens_at_once t then option_map (with_parameters name) (distinct (parameters_of ts)) else Some (record { name = name; parameters = None; body = t ∷ ts })
 
 -- The definition of the tokens after `define`: none where they begin with no name, or with `defined`, or have a bad or repeated parameter.
 abbrev pub definition : List Token → Option Definition
@@ -96,7 +101,7 @@ numbered k spaced None = plain k spaced
 numbered k spaced (Some n) = parameter n
 
 abbrev pub named_piece : List Name → TokenKind → Bool → Piece
-named_piece names (kind.Name name) spaced = numbered (kind.Name name) spaced (position_from (same_name name) 0 names)
+named_piece names (kind.Name name) spaced = numbered (kind.Name name) spaced (position (same_name name) names)
 named_piece names k spaced = plain k spaced
 
 abbrev pub piece : Option (List Name) → Token → Piece
@@ -114,11 +119,13 @@ is_operator _ = false
 
 -- ---- the macros that no line defines. Their tokens are not spaced.
 
-abbrev pub decimal : NumberKind
-decimal = record { decimal = true; unsigned = false; longs = 0 }
+-- The token that the spelling of a number without a suffix is lexed to: `0` is an octal literal, each other number a
+-- decimal one (C11 6.4.4.1p1). So a line `#define EXIT_SUCCESS 0` defines what the header defines.
+abbrev pub literal : ℕ → TokenKind
+literal n = kind.Number n (record { decimal = not (n == 0); unsigned = false; longs = 0 })
 
 abbrev pub digit : ℕ → Piece
-digit n = plain (kind.Number n decimal) false
+digit n = plain (literal n) false
 
 abbrev pub mark : Punct → Piece
 mark p = plain (kind.Punct p) false

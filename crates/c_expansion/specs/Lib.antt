@@ -7,3 +7,4 @@ pub mod Definitions
 pub mod Lines
 pub mod Moves
 pub mod Expansion
+pub mod Origins

@@ -1,19 +1,15 @@
 -- What a list of tokens begins with: a text, or a directive with its line (C11 6.10p1 and p2).
 use Rattle.std.specs.Prelude.{Bool, true, false, not, ◌&&◌, if◌then◌else◌, List, [], ◌∷◌, take, drop, codes, Option, Some, None}
 use Rattle.std.specs.List.{prefix_len}
-use Rattle.c_tokens.specs.declared.Punct.TheVariants.{Hash}
 use Rattle.c_tokens.specs.declared.HeaderId.{HeaderId}
 use Rattle.c_tokens.specs.declared.HeaderId.TheVariants as header
 use Rattle.c_tokens.specs.declared.TokenKind.{TokenKind}
 use Rattle.c_tokens.specs.declared.TokenKind.TheVariants as kind
 use Rattle.c_tokens.specs.declared.Token.{Token}
+use Rattle.c_tokens.specs.Tokens.{is_hash}
 use Rattle.c_expansion.specs.declared.words.Word.{Word}
 use Rattle.c_expansion.specs.declared.words.Word.TheVariants.{If, Ifdef, Ifndef, Elif, Else, Endif, Include, Define, Undef, Unknown}
 use Rattle.c_expansion.specs.Macros.{Name, same_name}
-
-abbrev pub is_hash : TokenKind → Bool
-is_hash (kind.Punct Hash) = true
-is_hash _ = false
 
 abbrev pub is_directive : Token → Bool
 is_directive t = is_hash t.kind && t.starts_line

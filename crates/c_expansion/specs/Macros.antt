@@ -1,6 +1,7 @@
 -- Tokens under expansion, and macros (C11 6.10.3), as plain data.
-use Rattle.std.specs.Prelude.{ℕ, nat_eq, Bool, true, false, if◌then◌else◌, List, [], Option, None, map}
+use Rattle.std.specs.Prelude.{ℕ, nat_eq, Bool, true, false, if◌then◌else◌, List, Option, None, map}
 use Rattle.std.specs.Cmp.Lexicographic.{pointwise}
+use Rattle.std.specs.List.{list_any}
 use Rattle.fc_base.specs.declared.Place.{Place}
 use Rattle.c_tokens.specs.declared.Punct.TheVariants.{LeftParen, RightParen}
 use Rattle.c_tokens.specs.declared.Token.{Token}
@@ -14,6 +15,10 @@ Name = List ℕ
 abbrev pub same_name : Name → Name → Bool
 same_name = pointwise nat_eq
 
+-- the name is one of these
+abbrev pub has : List Name → Name → Bool
+has names name = list_any (λ other. same_name other name) names
+
 abbrev pub opens : TokenKind → Bool
 opens (kind.Punct LeftParen) = true
 opens _ = false
@@ -22,17 +27,24 @@ abbrev pub closes : TokenKind → Bool
 closes (kind.Punct RightParen) = true
 closes _ = false
 
--- a token with the names that are not replaced in it
+-- a hide set: the names that are not replaced in a token (Prosser's algorithm for C11 6.10.3.4)
+abbrev pub HideSet : Type 0
+HideSet = Name → Bool
+
+abbrev pub no_names : HideSet
+no_names name = false
+
+-- a token with its hide set
 pub record Item : Type 0 where
   pub kind : TokenKind
   pub place : Place
   pub starts_line : Bool
   pub spaced : Bool
-  pub hide : List Name
+  pub hide : HideSet
 
 -- a token of the source, in which no name is hidden
 abbrev pub item : Token → Item
-item t = record { kind = t.kind; place = t.place; starts_line = t.starts_line; spaced = t.spaced; hide = [] }
+item t = record { kind = t.kind; place = t.place; starts_line = t.starts_line; spaced = t.spaced; hide = no_names }
 
 abbrev pub items : List Token → List Item
 items = map item
@@ -65,10 +77,6 @@ with_macro name meaning ms = λ other. if same_name name other then meaning else
 pub data Argument : Type 0 where
   written : List Item → Argument
   expanded : List Item → Argument
-
--- the count of tokens is at most this
-abbrev pub token_limit : ℕ
-token_limit = 1000000
 
 -- so many arguments are expanded one inside another at most
 abbrev pub nesting_limit : ℕ

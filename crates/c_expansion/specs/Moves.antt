@@ -15,7 +15,7 @@ use Rattle.c_expansion.specs.declared.words.Word.{Word}
 use Rattle.c_expansion.specs.declared.words.Word.TheVariants as word
 use Rattle.c_expansion.specs.Macros.{Name, Item, token, Meaning, Macros, no_macros, with_macro, opens, closes}
 use Rattle.c_expansion.specs.Sameness.{same_header, same_meaning}
-use Rattle.c_expansion.specs.Definitions.{name_of, is_defined_word, Definition, definition, meaning, is_operator, decimal, header_macros, fortify_source}
+use Rattle.c_expansion.specs.Definitions.{name_of, is_defined_word, Definition, definition, meaning, is_operator, literal, header_macros, fortify_source}
 use Rattle.c_expansion.specs.Lines.{Front, front, nothing, text, directive, word_of, header_named}
 
 -- ---- the state between two directives
@@ -129,7 +129,7 @@ is_defined _ = false
 
 -- 1 or 0, where `defined` stood
 abbrev pub answer : Macros → Token → Name → Token
-answer ms t name = record t { kind = kind.Number (if is_some (ms name) then 1 else 0) decimal }
+answer ms t name = record t { kind = literal (if is_some (ms name) then 1 else 0) }
 
 abbrev pub before : Token → Option (List Token) → Option (List Token)
 before t = option_map (λ ts. t ∷ ts)

@@ -5,7 +5,8 @@ use Rattle.fc_base.specs.declared.Place.{Place}
 use Rattle.fc_base.specs.declared.Refusal.{Refusal}
 use Rattle.fc_base.specs.declared.Rule.TheVariants.{LimitTokens, MacroArguments}
 use Rattle.c_tokens.specs.declared.TokenKind.{TokenKind}
-use Rattle.c_expansion.specs.Macros.{Name, Item, Piece, plain, parameter, Macros, Argument, written, expanded, token_limit}
+use Rattle.c_tokens.specs.Tokens.{token_limit}
+use Rattle.c_expansion.specs.Macros.{HideSet, Item, Piece, plain, parameter, Macros, Argument, written, expanded}
 use Rattle.c_expansion.specs.Turns.{union, turn, stays, bad_call, becomes}
 
 -- a list of tokens with the count of tokens after it, or the first refusal
@@ -17,11 +18,11 @@ after front (Ok r) = Ok (front ++ r.0, r.1)
 after front (Err e) = Err e
 
 -- a token of a replacement list stands at the place of the name that was replaced, and starts no line
-abbrev pub replacing : Place → List Name → TokenKind → Bool → Item
+abbrev pub replacing : Place → HideSet → TokenKind → Bool → Item
 replacing place hide kind spaced = record { kind = kind; place = place; starts_line = false; spaced = spaced; hide = hide }
 
 -- an argument's token keeps its place and flags, and its own hide set beside the new one
-abbrev pub hidden : List Name → Item → Item
+abbrev pub hidden : HideSet → Item → Item
 hidden hide t = record t { hide = union t.hide hide }
 
 abbrev pub argument_text : Option Argument → List Item
@@ -41,24 +42,24 @@ mutual
     kept : {depth count : ℕ} {t : Item} {ts : List Item} {out : Outcome} → turn ms depth t ts ≡ stays → Expands ms depth count ts out
         → Expands ms depth count (t ∷ ts) (after (t ∷ []) out)
     refused_call : {depth count : ℕ} {t : Item} {ts : List Item} → turn ms depth t ts ≡ bad_call → Expands ms depth count (t ∷ ts) (Err (bad_call_at t.place))
-    refused_argument : {depth count : ℕ} {t : Item} {ts : List Item} {body : List Piece} {hide : List Name} {args : List Argument} {rest : List Item} {e : Refusal}
+    refused_argument : {depth count : ℕ} {t : Item} {ts : List Item} {body : List Piece} {hide : HideSet} {args : List Argument} {rest : List Item} {e : Refusal}
         → turn ms depth t ts ≡ becomes body hide args rest → Substitutes ms depth count t.place hide args body (Err e) → Expands ms depth count (t ∷ ts) (Err e)
-    too_many : {depth count : ℕ} {t : Item} {ts : List Item} {body : List Piece} {hide : List Name} {args : List Argument} {rest : List Item} {new : List Item} {count' : ℕ}
+    too_many : {depth count : ℕ} {t : Item} {ts : List Item} {body : List Piece} {hide : HideSet} {args : List Argument} {rest : List Item} {new : List Item} {count' : ℕ}
         → turn ms depth t ts ≡ becomes body hide args rest → Substitutes ms depth count t.place hide args body (Ok (new, count')) → token_limit < count' + length new
         → Expands ms depth count (t ∷ ts) (Err (too_many_at t.place))
     -- the result is put back in front of the rest, and the whole list is looked at again
-    replaced : {depth count : ℕ} {t : Item} {ts : List Item} {body : List Piece} {hide : List Name} {args : List Argument} {rest : List Item} {new : List Item} {count' : ℕ} {out : Outcome}
+    replaced : {depth count : ℕ} {t : Item} {ts : List Item} {body : List Piece} {hide : HideSet} {args : List Argument} {rest : List Item} {new : List Item} {count' : ℕ} {out : Outcome}
         → turn ms depth t ts ≡ becomes body hide args rest → Substitutes ms depth count t.place hide args body (Ok (new, count')) → count' + length new ≤ token_limit
         → Expands ms depth (count' + length new) (new ++ rest) out → Expands ms depth count (t ∷ ts) out
 
   -- Substitutes ms depth count place hide args body out: the replacement list with the arguments in the places of the parameters
-  pub data Substitutes (ms : Macros) : ℕ → ℕ → Place → List Name → List Argument → List Piece → Outcome → Type 0 where
-    whole : {depth count : ℕ} {place : Place} {hide : List Name} {args : List Argument} → Substitutes ms depth count place hide args [] (Ok ([], count))
-    own : {depth count : ℕ} {place : Place} {hide : List Name} {args : List Argument} {kind : TokenKind} {spaced : Bool} {body : List Piece} {out : Outcome}
+  pub data Substitutes (ms : Macros) : ℕ → ℕ → Place → HideSet → List Argument → List Piece → Outcome → Type 0 where
+    whole : {depth count : ℕ} {place : Place} {hide : HideSet} {args : List Argument} → Substitutes ms depth count place hide args [] (Ok ([], count))
+    own : {depth count : ℕ} {place : Place} {hide : HideSet} {args : List Argument} {kind : TokenKind} {spaced : Bool} {body : List Piece} {out : Outcome}
         → Substitutes ms depth count place hide args body out → Substitutes ms depth count place hide args (plain kind spaced ∷ body) (after (replacing place hide kind spaced ∷ []) out)
-    refused : {depth count : ℕ} {place : Place} {hide : List Name} {args : List Argument} {k : ℕ} {body : List Piece} {e : Refusal}
+    refused : {depth count : ℕ} {place : Place} {hide : HideSet} {args : List Argument} {k : ℕ} {body : List Piece} {e : Refusal}
         → Readies ms depth count args k (Err e) → Substitutes ms depth count place hide args (parameter k ∷ body) (Err e)
-    of_argument : {depth count : ℕ} {place : Place} {hide : List Name} {args : List Argument} {k : ℕ} {body : List Piece} {args' : List Argument} {count' : ℕ} {out : Outcome}
+    of_argument : {depth count : ℕ} {place : Place} {hide : HideSet} {args : List Argument} {k : ℕ} {body : List Piece} {args' : List Argument} {count' : ℕ} {out : Outcome}
         → Readies ms depth count args k (Ok (args', count')) → Substitutes ms depth count' place hide args' body out
         → Substitutes ms depth count place hide args (parameter k ∷ body) (after (map (hidden hide) (argument_text (slice_get args' k))) out)
 

@@ -1,27 +1,28 @@
 -- What the first token of a list does (C11 6.10.3): it stays, or it and the arguments after it are replaced.
-use Rattle.std.specs.Prelude.{ℕ, ◌+◌, ◌-◌, ◌==◌, nat_lt, Bool, true, false, not, if◌then◌else◌, List, [], ◌∷◌, ◌++◌, length, drop, Option, Some, None, option_map}
-use Rattle.std.specs.List.{list_any, filter}
+use Rattle.std.specs.Prelude.{ℕ, ◌+◌, ◌-◌, ◌==◌, nat_lt, Bool, true, false, ◌&&◌, ◌||◌, if◌then◌else◌, List, [], ◌∷◌, length, drop, Option, Some, None, option_map}
 use Rattle.c_tokens.specs.declared.Punct.{Punct}
 use Rattle.c_tokens.specs.declared.Punct.TheVariants.{LeftParen, RightParen, Comma}
 use Rattle.c_tokens.specs.declared.TokenKind.{TokenKind}
 use Rattle.c_tokens.specs.declared.TokenKind.TheVariants as kind
-use Rattle.c_expansion.specs.Macros.{Name, same_name, Item, Piece, Meaning, Macros, Argument, written, nesting_limit, opens}
+use Rattle.c_expansion.specs.Macros.{Name, same_name, HideSet, Item, Piece, Meaning, Macros, Argument, written, nesting_limit, opens}
 
 -- ---- hide sets
 
-abbrev pub has : List Name → Name → Bool
-has names name = list_any (λ other. same_name other name) names
+abbrev pub intersection : HideSet → HideSet → HideSet
+intersection a b = λ name. a name && b name
 
-abbrev pub intersection : List Name → List Name → List Name
-intersection a b = filter (has b) a
+abbrev pub union : HideSet → HideSet → HideSet
+union a b = λ name. a name || b name
 
-abbrev pub union : List Name → List Name → List Name
-union a b = a ++ filter (λ name. not (has a name)) b
+-- the set and the name of a token
+abbrev pub with_name : TokenKind → HideSet → HideSet
+with_name (kind.Name name) hide = λ other. same_name name other || hide other
+with_name _ hide = hide
 
 -- ---- the macro that a token names
 
-abbrev pub unhidden : Macros → List Name → TokenKind → Option Meaning
-unhidden ms hide (kind.Name name) = if has hide name then None else ms name
+abbrev pub unhidden : Macros → HideSet → TokenKind → Option Meaning
+unhidden ms hide (kind.Name name) = if hide name then None else ms name
 unhidden ms hide _ = None
 
 -- none where the name is in the token's own hide set
@@ -34,7 +35,7 @@ meaning_of ms t = unhidden ms t.hide t.kind
 pub record Call : Type 0 where
   pub first : List Item
   pub others : List Argument
-  pub close : List Name
+  pub close : HideSet
   pub rest : List Item
 
 abbrev pub longer : Item → Option Call → Option Call
@@ -90,11 +91,7 @@ pub data Turn : Type 0 where
   -- a call without its closing bracket, with another number of arguments, or too deep
   bad_call : Turn
   -- the replacement list, the hide set of the result, the arguments, and the tokens after the name or the call
-  becomes : List Piece → List Name → List Argument → List Item → Turn
-
-abbrev pub with_name : TokenKind → List Name → List Name
-with_name (kind.Name name) hide = hide ++ name ∷ []
-with_name _ hide = hide
+  becomes : List Piece → HideSet → List Argument → List Item → Turn
 
 abbrev pub called_with : Item → ℕ → List Piece → Option Call → Turn
 called_with t n body None = bad_call

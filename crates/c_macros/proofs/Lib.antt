@@ -1,0 +1,9 @@
+pub mod Tables
+pub mod Pairs
+pub mod Fronts
+pub mod Parameters
+pub mod Searches
+pub mod Asking
+pub mod Carried
+pub mod Holding
+pub mod Giving

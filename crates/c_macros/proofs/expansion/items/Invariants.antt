@@ -1,0 +1,7 @@
+use Rattle.std.proofs.Common.{◌≡◌, take}
+use Rattle.c_expansion.specs.Macros.{items}
+use Rattle.c_replacement.specs.Views.{views}
+use Rattle.c_macros.proofs.expansion.items.Given as goal
+
+abbrev pub invariant-loop-token : goal.invariant-loop-token
+invariant-loop-token l = views l.list.items ≡ items (take l.token-index l.text)

@@ -1,0 +1,196 @@
+//! The whole list, directive by directive and text by text.
+
+ghost use Rattle.std.specs.Prelude.{◌≡◌, ◌++◌, ◌≤◌, length, List, IfOk, OnOk, map, reverse};
+ghost use Rattle.std.specs.List.{All};
+ghost use Rattle.c_expansion.specs.Answers.{Answers};
+ghost use Rattle.c_expansion.specs.Macros.{Macros, items, token, no_macros};
+ghost use Rattle.c_expansion.specs.Expansion.{Expanded, IsExpanded};
+ghost use Rattle.c_tokens.specs.Pieces.{IsLexedKind};
+ghost use Rattle.c_expansion.specs.Moves as moves;
+ghost use Rattle.c_replacement.specs.Views.{table, view, views};
+ghost use Rattle.c_macros.specs.States.{state, EndsAs, PartIs};
+ghost use Rattle.c_macros.specs.declared.lines.Part.TheVariants as part;
+ghost use Rattle.c_macros.specs.Comes.{TakesAs, DoesAs};
+
+use crate::builtins::{Builtins, make_builtins};
+use crate::conditions::{item, refuse};
+use crate::directives::directive;
+use crate::headers::fortify_source;
+use crate::lines::{Part, after, first, part_of};
+use crate::states::{State, set_macro, takes};
+use c_expansion::Group;
+use c_replacement::{Item, Macros, replace};
+use c_tokens::{Token, TokenKind};
+use fc_base::{Fault, Level, NoMemory, Rule, Text};
+use indexmap::IndexMap;
+use std::alloc::{AllocError, Global};
+
+/// The same token in memory of its own.
+fn copied(alloc: Global, kind: &TokenKind) -> Result<TokenKind, NoMemory>
+    ensures { IfOk result (λ k. k ≡ kind.now) }
+{
+    Ok(match kind {
+        TokenKind::Name(name) => TokenKind::Name(Text::from_bytes(alloc, name.bytes())?),
+        TokenKind::Number { value, kind } => TokenKind::Number {
+            value: *value,
+            kind: *kind,
+        },
+        TokenKind::CharConst(byte) => TokenKind::CharConst(*byte),
+        TokenKind::Str(text) => TokenKind::Str(Text::from_bytes(alloc, text.bytes())?),
+        TokenKind::Punct(punct) => TokenKind::Punct(*punct),
+        TokenKind::HeaderName(name) => TokenKind::HeaderName(Text::from_bytes(
+            alloc,
+            name.bytes(),
+        )?),
+        TokenKind::Header(header) => TokenKind::Header(*header),
+    })
+}
+
+fn token(alloc: Global, item: &Item<'_>) -> Result<Token, NoMemory>
+    ensures { IfOk result (λ t. t ≡ token (view item.now)) }
+{
+    Ok(Token {
+        kind: copied(alloc, item.kind)?,
+        place: item.place,
+        starts_line: item.starts_line,
+        spaced: item.spaced,
+    })
+}
+
+fn push_tokens(alloc: Global, done: &mut Vec<Token>, list: &[Item<'_>]) -> Result<(), NoMemory>
+    ensures { OnOk result (done.new.items ≡ done.old.items ++ map token (views list.now)) }
+{
+    for item in list {
+        done.push(token(alloc, item)?)?;
+    }
+    Ok(())
+}
+
+fn items<'a>(alloc: Global, text: &'a [Token]) -> Result<Vec<Item<'a>>, AllocError>
+    ensures { IfOk result (λ v. views v.items ≡ items text.now) }
+{
+    let mut list = Vec::new(alloc);
+    for token in text {
+        list.push(item(alloc, &token.kind, token))?;
+    }
+    Ok(list)
+}
+
+/// Expands the text of a taken group.
+fn take_text<'a>(
+    alloc: Global,
+    macros: &Macros<'a>,
+    text: &'a [Token],
+    done: &mut Vec<Token>,
+    count: u64,
+) -> Result<u64, Fault>
+    ensures { TakesAs result (table macros.now) count text.now done.old.items done.new.items }
+{
+    let list = items(alloc, text)?;
+    let (new, count) = replace(alloc, macros, list, count)?;
+    push_tokens(alloc, done, &new)?;
+    Ok(count)
+}
+
+fn start<'a>(alloc: Global, tokens: &'a Builtins, level: Level) -> Result<State<'a>, AllocError>
+    ensures { IfOk result (λ st. state st ≡ moves.start level) }
+{
+    let mut macros = IndexMap::new(alloc);
+    let (name, meaning) = fortify_source(alloc, tokens, level)?;
+    set_macro(&mut macros, name, meaning)?;
+    let groups = Vec::new(alloc);
+    let headers = Vec::new(alloc);
+    Ok(State {
+        macros,
+        groups,
+        headers,
+    })
+}
+
+/// The end of the list, where no conditional may be open.
+fn finish(done: Vec<Token>, groups: &[Group]) -> Result<Vec<Token>, Fault>
+    ensures { EndsAs result done.items (moves.at_end (reverse groups.now)) }
+{
+    if groups.is_empty() {
+        Ok(done)
+    } else {
+        refuse(Rule::OpenConditional, groups[0].place)
+    }
+}
+
+/// A text at the front of the list, which is expanded where its group is taken.
+fn text_part<'a>(
+    alloc: Global,
+    st: &State<'a>,
+    rest: &'a [Token],
+    n: usize,
+    done: &mut Vec<Token>,
+    count: u64,
+) -> Result<u64, Fault>
+    requires { PartIs rest.now (part.Text n) }
+    ensures { DoesAs result (table st.now.macros) count (moves.move (state st.now) rest.now) (state st.now) done.old.items done.new.items }
+{
+    if takes(&st.groups) {
+        take_text(alloc, &st.macros, first(rest, n), done, count)
+    } else {
+        Ok(count)
+    }
+}
+
+/// A directive at the front of the list.
+fn line_part<'a>(
+    alloc: Global,
+    tokens: &'a Builtins,
+    st: &mut State<'a>,
+    rest: &'a [Token],
+    n: usize,
+    done: &mut Vec<Token>,
+    count: u64,
+) -> Result<u64, Fault>
+    requires { PartIs rest.now (part.Line n) }
+    ensures { DoesAs result (table st.old.macros) count (moves.move (state st.old) rest.now) (state st.new) done.old.items done.new.items }
+{
+    let line = first(after(rest, 1), n);
+    directive(alloc, tokens, st, &rest[0], line, done, count)
+}
+
+fn run<'a>(
+    alloc: Global,
+    tokens: &'a Builtins,
+    source: &'a [Token],
+    level: Level,
+) -> Result<Vec<Token>, Fault>
+    ensures { Answers (λ v. v.items) result (IsExpanded level source.now) }
+{
+    let mut st = start(alloc, tokens, level)?;
+    let mut done = Vec::new(alloc);
+    let mut count = source.len() as u64;
+    let mut at = 0;
+    'parts: loop {
+        let rest = after(source, at);
+        match part_of(rest) {
+            Part::Nothing => return finish(done, &st.groups),
+            Part::Text(n) => {
+                count = text_part(alloc, &st, rest, n, &mut done, count)?;
+                at += n;
+            }
+            Part::Line(n) => {
+                count = line_part(alloc, tokens, &mut st, rest, n, &mut done, count)?;
+                at += n + 1;
+            }
+        }
+    }
+}
+
+/// The list with its directives carried out and its macros replaced, or the first refusal.
+pub fn expand(alloc: Global, tokens: &[Token], level: Level) -> Result<Vec<Token>, Fault>
+    // What it gives is what the list expands to, or its refusal.
+    ensures is { Answers (λ v. v.items) result (IsExpanded level tokens.now) }
+    // The list has no other expansion.
+    ensures only { Answers (λ v. v.items) result (λ out. (other : Expanded) → IsExpanded level tokens.now other → other ≡ out) }
+    // Where each token of the list can be spelled, each that it gives can be.
+    ensures kinds { All (λ t. IsLexedKind t.kind) tokens.now → IfOk result (λ v. All (λ t. IsLexedKind t.kind) v.items) }
+{
+    let builtins = make_builtins(alloc)?;
+    run(alloc, &builtins, tokens, level)
+}

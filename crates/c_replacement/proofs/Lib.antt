@@ -1,0 +1,4 @@
+pub mod Gathering
+pub mod Owed
+pub mod Arguments
+pub mod Merging

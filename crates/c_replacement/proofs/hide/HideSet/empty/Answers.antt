@@ -1,0 +1,5 @@
+use Rattle.c_replacement.proofs.Merging.{none_ascends}
+use Rattle.c_replacement.proofs.hide.HideSet.empty.Goals as goal
+
+pub invariant_of-result : goal.invariant_of-result
+invariant_of-result c = none_ascends _ c.new.ensures.items

@@ -1,0 +1,32 @@
+use Rattle.std.proofs.Common.{◌+◌, ◌-◌, ◌*◌, ◌≤◌, ◌<◌, drop, vec_len}
+use Rattle.c_replacement.specs.declared.items.TheConstants.{NESTING_LIMIT}
+use Rattle.c_tokens.specs.Tokens.{token_limit}
+use Rattle.c_replacement.specs.HideSets.{held}
+use Rattle.c_replacement.specs.Views.{views, left, table, argument_views, piece_views}
+use Rattle.c_replacement.proofs.Owed.{Completes, Finishes}
+use Rattle.c_replacement.proofs.replacement.+replacement.Given as goal
+
+abbrev pub decreases-make_ready : goal.decreases-make_ready
+decreases-make_ready l = 3 * (NESTING_LIMIT - l.depth)
+
+abbrev pub decreases-substitute : goal.decreases-substitute
+decreases-substitute l = 3 * (NESTING_LIMIT - l.depth) + 1
+
+abbrev pub decreases-run : goal.decreases-run
+decreases-run l = 3 * (NESTING_LIMIT - l.depth) + 2
+
+abbrev pub invariant-run-loop-item : goal.invariant-run-loop-item
+invariant-run-loop-item l = record {
+  from : l.from ≤ l.count;
+  owed : Completes (table l.macros) l.depth l.from (left l.fn.pending.items) (views l.done.items) l.count (left l.pending.items);
+}
+
+abbrev pub decreases-run-loop-item : goal.decreases-run-loop-item
+decreases-run-loop-item l = 2 * (token_limit - l.count) + vec_len l.pending
+
+abbrev pub invariant-substitute-loop-piece : goal.invariant-substitute-loop-piece
+invariant-substitute-loop-piece l = record {
+  deep : 0 < vec_len l.args → l.depth < NESTING_LIMIT;
+  from : l.from ≤ l.count;
+  owed : Finishes (table l.macros) l.depth l.place (held l.hide) l.from (argument_views l.fn.args.items) (piece_views l.body) (views l.new.items) l.count (argument_views l.args.items) (piece_views (drop l.piece-index l.body));
+}

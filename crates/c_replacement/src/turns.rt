@@ -1,0 +1,120 @@
+//! What a token does: it stays, or it and the arguments after it are replaced.
+
+ghost use Rattle.std.specs.Prelude.{◌≡◌, ℕ, ◌≤◌, ◌<◌, ◌+◌, IfOk, option_map, vec_len, drop, true};
+ghost use Rattle.c_expansion.specs.Turns.{meaning_of, opens_next, called_with, call, turn};
+ghost use Rattle.c_replacement.specs.Views.{left, view, meaning_view, piece_views, table, macro_at};
+ghost use Rattle.c_replacement.specs.Turning.{TurnsAs, IsWithin};
+
+use crate::calls::{gather, right_number};
+use crate::hide::HideSet;
+use crate::items::{Argument, Item, Macro, Macros, NESTING_LIMIT, Piece};
+use c_tokens::{Punct, TokenKind};
+use std::alloc::{AllocError, Global};
+
+pub enum Turn<'m, 'a> {
+    Stays,
+    BadCall,
+    Becomes {
+        body: &'m [Piece<'a>],
+        hide: HideSet<'a>,
+        args: Vec<Argument<'a>>,
+    },
+}
+
+fn find<'m, 'a>(macros: &'m Macros<'a>, name: &[u8]) -> Option<&'m Macro<'a>>
+    ensures { option_map (λ m. m.now) result ≡ macro_at macros.now name.now }
+{
+    macros.get(name)
+}
+
+fn meaning_of<'m, 'a>(macros: &'m Macros<'a>, item: &Item<'a>) -> Option<&'m Macro<'a>>
+    ensures { option_map (λ m. meaning_view m.now) result ≡ meaning_of (table macros.now) (view item.now) }
+{
+    match item.kind {
+        TokenKind::Name(name) => {
+            if item.hide.has(name.bytes()) {
+                None
+            } else {
+                find(macros, name.bytes())
+            }
+        }
+        _ => None,
+    }
+}
+
+/// An opening bracket comes next.
+fn opens_next(pending: &[Item<'_>]) -> bool
+    ensures { result ≡ opens_next (left pending.now) }
+{
+    match pending {
+        [.., next] => match next.kind {
+            TokenKind::Punct(Punct::LeftParen) => true,
+            _ => false,
+        },
+        [] => false,
+    }
+}
+
+/// A call, at its opening bracket.
+fn called<'m, 'a>(
+    alloc: Global,
+    item: &Item<'a>,
+    n: usize,
+    body: &'m [Piece<'a>],
+    pending: &mut Vec<Item<'a>>,
+) -> Result<Turn<'m, 'a>, AllocError>
+    requires { opens_next (left pending.old.items) ≡ true }
+    ensures found { IfOk result (λ t. TurnsAs t (left pending.old.items) (left pending.new.items)
+        (called_with (view item.now) n (piece_views body.now) (call 0 (drop 1 (left pending.old.items))))) }
+    ensures shorter { vec_len pending.new + 1 ≤ vec_len pending.old }
+{
+    pending.pop();
+    match gather(alloc, pending)? {
+        None => Ok(Turn::BadCall),
+        Some(call) => {
+            if !right_number(n, &call.args) {
+                return Ok(Turn::BadCall);
+            }
+            let hide = item.hide.intersection(alloc, &call.close)?;
+            Ok(Turn::Becomes {
+                body,
+                hide: hide.with_name(alloc, item.kind)?,
+                args: call.args,
+            })
+        }
+    }
+}
+
+/// What the token does, with what is left after it.
+pub fn turn_of<'m, 'a>(
+    alloc: Global,
+    macros: &'m Macros<'a>,
+    depth: u32,
+    item: &Item<'a>,
+    pending: &mut Vec<Item<'a>>,
+) -> Result<Turn<'m, 'a>, AllocError>
+    ensures found { IfOk result (λ t. TurnsAs t (left pending.old.items) (left pending.new.items)
+        (turn (table macros.now) depth (view item.now) (left pending.old.items))) }
+    ensures shorter { vec_len pending.new ≤ vec_len pending.old }
+    ensures within { IfOk result (λ t. IsWithin depth NESTING_LIMIT t) }
+{
+    match meaning_of(macros, item) {
+        None => Ok(Turn::Stays),
+        Some(meaning) => match &meaning.parameters {
+            None => Ok(Turn::Becomes {
+                body: &meaning.body,
+                hide: item.hide.with_name(alloc, item.kind)?,
+                args: Vec::new(alloc),
+            }),
+            Some(parameters) => {
+                if !opens_next(pending) {
+                    return Ok(Turn::Stays);
+                }
+                if depth >= NESTING_LIMIT {
+                    return Ok(Turn::BadCall);
+                }
+                called(alloc, item, parameters.len(), &meaning.body, pending)
+            }
+        },
+    }
+}
