@@ -1,17 +1,19 @@
-mod Alone
-mod Basics
-mod SoundParts
-mod Sound
-mod CompleteParts
-mod Complete
-mod Abstracts
-mod CompleteExprs
-mod SoundDeclarators
-mod CompleteDeclarators
-mod CompleteSpecs
-mod SoundStatements
-mod AloneStatements
-mod CompleteStatements
-mod Externals
-mod Files
-mod Uniqueness
+pub mod Alone
+pub mod Basics
+pub mod SoundParts
+pub mod Sound
+pub mod CompleteParts
+pub mod Complete
+pub mod Abstracts
+pub mod CompleteExprs
+pub mod SoundDeclarators
+pub mod CompleteDeclarators
+pub mod CompleteSpecs
+pub mod SoundStatements
+pub mod AloneStatements
+pub mod CompleteStatements
+pub mod Externals
+pub mod Files
+pub mod Uniqueness
+pub mod TreeHeights
+pub mod FileHeights

@@ -27,8 +27,8 @@ use Rattle.c_grammar.proofs.Sound.{Spells, bound_sound, abstract_sound, expressi
 pub record FoundNamed (s : List Lexeme) (r : Read Named) : Type 0 where
   pub derives : IsDeclarator s r.tree.tree r.tree.declared r.height r.rest
 
-record FoundDirect (s : List Lexeme) (r : Read Named) : Type 0 where
-  derives : IsDirect s r.tree.tree r.tree.declared r.height r.rest
+pub record FoundDirect (s : List Lexeme) (r : Read Named) : Type 0 where
+  pub derives : IsDirect s r.tree.tree r.tree.declared r.height r.rest
 
 module _ (n : ℕ) (sub : ℕ → List Lexeme → Option (Read Expr)) (sound : (to : ℕ) (s : List Lexeme) → IfSome (sub to s) (Spells n to s))
     (deep : List Lexeme → Option (Read Named)) (deep_sound : (s : List Lexeme) → IfSome (deep s) (FoundNamed s)) where
@@ -68,7 +68,7 @@ module _ (n : ℕ) (sub : ℕ → List Lexeme → Option (Read Expr)) (sound : (
   params_void_sound o (at (k.Punct p.RightParen) q ∷ t) = record { derives = g.void_params }
   params_void_sound o (q ∷ t) = params_list_sound (at (k.Word w.Void) o ∷ q ∷ t) refl
 
-  params_in_sound : (s : List Lexeme) → IfSome (params_in sub deep s) (Found AreParams s)
+  pub params_in_sound : (s : List Lexeme) → IfSome (params_in sub deep s) (Found AreParams s)
   params_in_sound [] = params_list_sound [] refl
   params_in_sound (at (k.Punct p.RightParen) o ∷ t) = record { derives = g.no_params }
   params_in_sound (at (k.Word w.Void) o ∷ t) = params_void_sound o t
@@ -100,7 +100,7 @@ module _ (n : ℕ) (sub : ℕ → List Lexeme → Option (Read Expr)) (sound : (
         bind_all _ _ (after_right_paren x.rest) _ (after_right_paren_sound x.rest) (λ u close.
         record { derives = g.direct_parens (subst (IsDeclarator t x.tree.tree x.tree.declared x.height) close.1 d.derives) }))
 
-    first_sound : (s : List Lexeme) → IfSome (first sub deep inside s) (FoundDirect s)
+    pub first_sound : (s : List Lexeme) → IfSome (first sub deep inside s) (FoundDirect s)
     first_sound [] = tt
     first_sound (at k.Name o ∷ t) = record { derives = g.direct_name }
     first_sound (at (k.Punct p.LeftParen) o ∷ t) = grouped_sound o t
@@ -123,7 +123,7 @@ module _ (n : ℕ) (sub : ℕ → List Lexeme → Option (Read Expr)) (sound : (
     whole_by_sound (at (k.Punct p.Star) o ∷ t) = pointer_sound o t (pointer_words t).0 (pointer_words t).1 (pointer_words_sound t)
     whole_by_sound (o ∷ t) = plain_sound (o ∷ t)
 
-  whole_sound : (m : ℕ) (s : List Lexeme) → IfSome (whole sub deep m s) (FoundNamed s)
+  pub whole_sound : (m : ℕ) (s : List Lexeme) → IfSome (whole sub deep m s) (FoundNamed s)
   unfolding whole
   whole_sound zero s = tt
   whole_sound (suc m) s = whole_by_sound (whole sub deep m) (whole_sound m) s

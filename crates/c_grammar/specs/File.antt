@@ -16,16 +16,14 @@ use Rattle.c_tree.specs.declared.statements.Stmt.TheVariants as s
 use Rattle.c_tree.specs.declared.externals.External.{External}
 use Rattle.c_tree.specs.declared.externals.External.TheVariants as x
 use Rattle.c_tree.specs.declared.externals.FileTree.{FileTree}
+use Rattle.c_tree.specs.Heights.{highest_tree}
 use Rattle.c_grammar.specs.declared.terminals.Terminal.TheVariants as k
 use Rattle.c_grammar.specs.Terminals.{Lexeme, at, lexeme, place_of, has, left_out_keywords, header_types}
 use Rattle.c_grammar.specs.Specifiers.{outer, Tally}
 use Rattle.c_grammar.specs.Expressions.{AreSpecs, IsDeclarator, Declared}
 use Rattle.c_grammar.specs.Statements.{AreInitDeclarators, AreItems}
 
--- the most nodes from the root of a tree to a leaf, and the most brackets that are open at once: this project's own
-abbrev pub height_limit : ℕ
-height_limit = 400
-
+-- the most brackets that are open at once: this project's own
 abbrev pub bracket_limit : ℕ
 bracket_limit = 200
 
@@ -52,7 +50,7 @@ pub record Begins (types : List (List ℕ)) (s : List Token) (x : External) (nam
   pub before : List Token
   pub whole : s ≡ before ++ t
   pub height : ℕ
-  pub low : height ≤ height_limit
+  pub low : height ≤ highest_tree
   pub derives : IsExternal (map (lexeme types) before) x names height []
 
 -- and no fewer tokens are one
@@ -116,3 +114,7 @@ pub data Derives : List Token → Result FileTree Refusal → Type 0 where
       Derives s (Err (record { rule = rule.Syntax; place = place }))
   derived : {s : List Token} {xs : List External} → first_left_out s ≡ None → first_deep 0 s ≡ None → Declares [] s (Ok xs) →
       Derives s (Ok (record { externals = xs }))
+
+-- A well-formed tree of a file: some tokens derive it.
+abbrev pub IsDerived : FileTree → Type 0
+IsDerived file = (s : List Token) × Derives s (Ok file)

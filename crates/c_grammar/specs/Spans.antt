@@ -5,9 +5,10 @@ use Rattle.c_tokens.specs.declared.tokens.Token.{Token}
 use Rattle.c_tokens.specs.declared.tokens.TokenKind.{TokenKind}
 use Rattle.c_tokens.specs.declared.tokens.TokenKind.TheVariants as kind
 use Rattle.c_tree.specs.declared.nodes.Expr.{Expr}
+use Rattle.c_tree.specs.Heights.{highest_tree}
 use Rattle.c_grammar.specs.Terminals.{lexeme}
 use Rattle.c_grammar.specs.Expressions.{IsExpr}
-use Rattle.c_grammar.specs.File.{Bracket, opens, closes, neither, bracket, height_limit}
+use Rattle.c_grammar.specs.File.{Bracket, opens, closes, neither, bracket}
 
 -- Whether a token outside brackets ends a span: `;`, `)`, `]`, `{` and `}` do, and `:` while no `?` is open. A comma
 -- does too while none is, where commas end it.
@@ -46,5 +47,5 @@ span commas (suc n) questions (o ∷ s) = o ∷ span commas (brackets_after (suc
 -- the tokens are an expression of the level, whose tree is not too high, where these are the names of types
 pub record Spells (types : List (List ℕ)) (level : ℕ) (s : List Token) (x : Expr) : Type 0 where
   pub height : ℕ
-  pub low : height ≤ height_limit
+  pub low : height ≤ highest_tree
   pub derives : IsExpr level (map (lexeme types) s) x height []

@@ -92,7 +92,8 @@ incomplete_within : (n : ℕ) (tags : List TagDef) (k : ℕ) (d : TagDef) → sl
 incomplete_within zero tags k d e c = refl
 incomplete_within (suc n) tags k d e c = rw (e, c) refl
 
-unfolded : (n : ℕ) (tags : List TagDef) (k : ℕ) (d : TagDef) (l : Layout) → slice_get tags k ≡ Some d →
+-- a layout is that of the definition
+pub unfolded : (n : ℕ) (tags : List TagDef) (k : ℕ) (d : TagDef) (l : Layout) → slice_get tags k ≡ Some d →
     tag_layout_within n tags k ≡ Some l → definition_layout (tag_layout_within n tags) d ≡ Some l
 unfolded zero tags k d l e h = cc
 unfolded (suc n) tags k d l e h =

@@ -4,6 +4,7 @@ pub mod Extents
 pub mod Fair
 pub mod Grounds
 pub mod LaidOut
+pub mod Offsets
 pub mod Placements
 pub mod Related
 pub mod Table

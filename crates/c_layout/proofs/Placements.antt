@@ -34,10 +34,10 @@ after_end (l ∷ ls) place h =
     let r = after_end ls (aligned place l.align + l.size) (others_positive l ls h) in
     omega (arith, a.not_before)
 
-record Stands (ls : List Layout) (start k : ℕ) (l : Layout) : Type 0 where
-  multiple : last_place start (take (suc k) ls) % l.align ≡ 0
-  behind : end_of start (take k ls) ≤ last_place start (take (suc k) ls)
-  before_end : last_place start (take (suc k) ls) + l.size ≤ end_of start ls
+pub record Stands (ls : List Layout) (start k : ℕ) (l : Layout) : Type 0 where
+  pub multiple : last_place start (take (suc k) ls) % l.align ≡ 0
+  pub behind : end_of start (take k ls) ≤ last_place start (take (suc k) ls)
+  pub before_end : last_place start (take (suc k) ls) + l.size ≤ end_of start ls
 
 some_same : (x y : Layout) → ◌≡◌ {A = Option Layout} (Some x) (Some y) → x ≡ y
 some_same x y e = cc
@@ -48,7 +48,7 @@ last_place-cons : (l : Layout) (ls : List Layout) (start k : ℕ) (m : Layout) �
 last_place-cons l [] start k m e = cc
 last_place-cons l (x ∷ ls) start k m e = refl
 
-stands : (ls : List Layout) (start k : ℕ) (l : Layout) → All (λ l. 0 < l.align) ls → slice_get ls k ≡ Some l → Stands ls start k l
+pub stands : (ls : List Layout) (start k : ℕ) (l : Layout) → All (λ l. 0 < l.align) ls → slice_get ls k ≡ Some l → Stands ls start k l
 stands [] start k l h e = cc
 stands (x ∷ ls) start zero l h e =
     let same = some_same x l e in

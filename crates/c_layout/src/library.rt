@@ -55,6 +55,25 @@ pub enum LibFn {
     Note,
 }
 
+/// What is known of a function: its name in C, the header that declares it, and the mode of the size that its checked
+/// form takes.
+#[derive(Clone, Copy)]
+struct Row {
+    name: &'static str,
+    header: Option<HeaderNumber>,
+    mode: Option<Mode>,
+}
+
+impl Row {
+    fn new(name: &'static str, header: Option<HeaderNumber>, mode: Option<Mode>) -> Row
+        ensures name { result.name.now ≡ name.now }
+        ensures header { result.header ≡ header }
+        ensures mode { result.mode ≡ mode }
+    {
+        Row { name, header, mode }
+    }
+}
+
 impl LibFn {
     /// All of them, in the order of the numbers of their host calls.
     const ALL: [LibFn; 31] = [
@@ -91,87 +110,58 @@ impl LibFn {
         LibFn::Note,
     ];
 
+    fn row(self) -> Row
+        ensures name { result.name.now ≡ (row_of self).name }
+        ensures header { result.header ≡ (row_of self).header }
+        ensures mode { result.mode ≡ (row_of self).mode }
+    {
+        match self {
+            LibFn::Exit => Row::new("exit", Some(STDLIB_H), None),
+            LibFn::Abort => Row::new("abort", Some(STDLIB_H), None),
+            LibFn::Malloc => Row::new("malloc", Some(STDLIB_H), None),
+            LibFn::Calloc => Row::new("calloc", Some(STDLIB_H), None),
+            LibFn::Realloc => Row::new("realloc", Some(STDLIB_H), None),
+            LibFn::Free => Row::new("free", Some(STDLIB_H), None),
+            LibFn::Memcpy => Row::new("memcpy", Some(STRING_H), Some(Mode::M0)),
+            LibFn::Memmove => Row::new("memmove", Some(STRING_H), Some(Mode::M0)),
+            LibFn::Mempcpy => Row::new("mempcpy", Some(STRING_H), Some(Mode::M0)),
+            LibFn::Memset => Row::new("memset", Some(STRING_H), Some(Mode::M0)),
+            LibFn::Bzero => Row::new("bzero", Some(STRINGS_H), Some(Mode::M0)),
+            LibFn::ExplicitBzero => Row::new("explicit_bzero", Some(STRING_H), Some(Mode::M0)),
+            LibFn::Memcmp => Row::new("memcmp", Some(STRING_H), None),
+            LibFn::Strcpy => Row::new("strcpy", Some(STRING_H), Some(Mode::M1)),
+            LibFn::Stpcpy => Row::new("stpcpy", Some(STRING_H), Some(Mode::M1)),
+            LibFn::Strncpy => Row::new("strncpy", Some(STRING_H), Some(Mode::M1)),
+            LibFn::Strcat => Row::new("strcat", Some(STRING_H), Some(Mode::M1)),
+            LibFn::Strncat => Row::new("strncat", Some(STRING_H), Some(Mode::M1)),
+            LibFn::Strlen => Row::new("strlen", Some(STRING_H), None),
+            LibFn::Strcmp => Row::new("strcmp", Some(STRING_H), None),
+            LibFn::Strchr => Row::new("strchr", Some(STRING_H), None),
+            LibFn::Printf => Row::new("printf", Some(STDIO_H), None),
+            LibFn::Puts => Row::new("puts", Some(STDIO_H), None),
+            LibFn::Putchar => Row::new("putchar", Some(STDIO_H), None),
+            LibFn::Dprintf => Row::new("dprintf", Some(STDIO_H), None),
+            LibFn::Sprintf => Row::new("sprintf", Some(STDIO_H), Some(Mode::M1)),
+            LibFn::Snprintf => Row::new("snprintf", Some(STDIO_H), Some(Mode::M1)),
+            LibFn::Read => Row::new("read", Some(UNISTD_H), Some(Mode::M0)),
+            LibFn::Write => Row::new("write", Some(UNISTD_H), None),
+            LibFn::Getchar => Row::new("getchar", Some(STDIO_H), None),
+            LibFn::Note => Row::new("note", None, None),
+        }
+    }
+
     /// The name of the function in C.
     pub fn name(self) -> &'static str
         ensures { result.now ≡ (row_of self).name }
     {
-        match self {
-            LibFn::Exit => "exit",
-            LibFn::Abort => "abort",
-            LibFn::Malloc => "malloc",
-            LibFn::Calloc => "calloc",
-            LibFn::Realloc => "realloc",
-            LibFn::Free => "free",
-            LibFn::Memcpy => "memcpy",
-            LibFn::Memmove => "memmove",
-            LibFn::Mempcpy => "mempcpy",
-            LibFn::Memset => "memset",
-            LibFn::Bzero => "bzero",
-            LibFn::ExplicitBzero => "explicit_bzero",
-            LibFn::Memcmp => "memcmp",
-            LibFn::Strcpy => "strcpy",
-            LibFn::Stpcpy => "stpcpy",
-            LibFn::Strncpy => "strncpy",
-            LibFn::Strcat => "strcat",
-            LibFn::Strncat => "strncat",
-            LibFn::Strlen => "strlen",
-            LibFn::Strcmp => "strcmp",
-            LibFn::Strchr => "strchr",
-            LibFn::Printf => "printf",
-            LibFn::Puts => "puts",
-            LibFn::Putchar => "putchar",
-            LibFn::Dprintf => "dprintf",
-            LibFn::Sprintf => "sprintf",
-            LibFn::Snprintf => "snprintf",
-            LibFn::Read => "read",
-            LibFn::Write => "write",
-            LibFn::Getchar => "getchar",
-            LibFn::Note => "note",
-        }
-    }
-
-    /// The header that declares it.
-    fn header(self) -> Option<HeaderNumber>
-        ensures { result ≡ (row_of self).header }
-    {
-        match self {
-            LibFn::Memcpy
-            | LibFn::Memmove
-            | LibFn::Mempcpy
-            | LibFn::Memset
-            | LibFn::ExplicitBzero
-            | LibFn::Memcmp
-            | LibFn::Strcpy
-            | LibFn::Stpcpy
-            | LibFn::Strncpy
-            | LibFn::Strcat
-            | LibFn::Strncat
-            | LibFn::Strlen
-            | LibFn::Strcmp
-            | LibFn::Strchr => Some(STRING_H),
-            LibFn::Bzero => Some(STRINGS_H),
-            LibFn::Printf
-            | LibFn::Puts
-            | LibFn::Putchar
-            | LibFn::Dprintf
-            | LibFn::Sprintf
-            | LibFn::Snprintf
-            | LibFn::Getchar => Some(STDIO_H),
-            LibFn::Exit
-            | LibFn::Abort
-            | LibFn::Malloc
-            | LibFn::Calloc
-            | LibFn::Realloc
-            | LibFn::Free => Some(STDLIB_H),
-            LibFn::Read | LibFn::Write => Some(UNISTD_H),
-            LibFn::Note => None,
-        }
+        self.row().name
     }
 
     fn is_declared(self, name: &[u8], header: HeaderNumber) -> bool
         ensures { IsTrue result ↔ IsDeclared self name.now header }
     {
-        self.header() == Some(header) && self.name().as_bytes() == name
+        let row = self.row();
+        row.header == Some(header) && row.name.as_bytes() == name
     }
 }
 
@@ -191,37 +181,5 @@ pub fn lib_by_name(name: &[u8], header: HeaderNumber) -> Option<LibFn>
 pub fn lib_mode(f: LibFn) -> Option<Mode>
     ensures { result ≡ (row_of f).mode }
 {
-    match f {
-        LibFn::Memcpy
-        | LibFn::Memmove
-        | LibFn::Mempcpy
-        | LibFn::Memset
-        | LibFn::Bzero
-        | LibFn::ExplicitBzero
-        | LibFn::Read => Some(Mode::M0),
-        LibFn::Strcpy
-        | LibFn::Stpcpy
-        | LibFn::Strncpy
-        | LibFn::Strcat
-        | LibFn::Strncat
-        | LibFn::Sprintf
-        | LibFn::Snprintf => Some(Mode::M1),
-        LibFn::Exit
-        | LibFn::Abort
-        | LibFn::Malloc
-        | LibFn::Calloc
-        | LibFn::Realloc
-        | LibFn::Free
-        | LibFn::Memcmp
-        | LibFn::Strlen
-        | LibFn::Strcmp
-        | LibFn::Strchr
-        | LibFn::Printf
-        | LibFn::Puts
-        | LibFn::Putchar
-        | LibFn::Dprintf
-        | LibFn::Write
-        | LibFn::Getchar
-        | LibFn::Note => None,
-    }
+    f.row().mode
 }

@@ -73,17 +73,16 @@ fn complete(alloc: Global, is_union: bool, members: Items<Member>) -> Result<Tag
     })
 }
 
-/// The size and alignment, with 0 and 0 for an incomplete type, and 0 and 1 for one that is too big.
-fn sized(tags: &Tags, ctype: &CType) -> (u64, u64) {
-    match layout_of(tags, ctype) {
-        Ok(Layout { size, align }) => (size, align),
-        Err(LayoutFault::Incomplete) => (0, 0),
-        Err(LayoutFault::TooBig) => (0, 1),
-    }
+const INCOMPLETE: Result<Layout, LayoutFault> = Err(LayoutFault::Incomplete);
+
+const TOO_BIG: Result<Layout, LayoutFault> = Err(LayoutFault::TooBig);
+
+fn laid_out(size: u64, align: u64) -> Result<Layout, LayoutFault> {
+    Ok(Layout { size, align })
 }
 
-fn check_size(rt: &impl Abort, tags: &Tags, ctype: CType, expected: (u64, u64)) {
-    assert_eq!(rt; sized(tags, &ctype), expected);
+fn check_size(rt: &impl Abort, tags: &Tags, ctype: CType, expected: Result<Layout, LayoutFault>) {
+    assert_eq!(rt; layout_of(tags, &ctype), expected);
 }
 
 fn check_offset(rt: &impl Abort, tags: &Tags, tag: u32, member: usize, expected: Option<u64>) {
@@ -93,12 +92,12 @@ fn check_offset(rt: &impl Abort, tags: &Tags, tag: u32, member: usize, expected:
 #[test]
 fn sizes_of_plain_types(rt: HostRuntime) -> Result<(), Fail> {
     let tags = Tags::new(rt.alloc());
-    check_size(&rt, &tags, integer(Width::W1), (1, 1));
-    check_size(&rt, &tags, integer(Width::W2), (2, 2));
-    check_size(&rt, &tags, integer(Width::W4), (4, 4));
-    check_size(&rt, &tags, integer(Width::W8), (8, 8));
-    check_size(&rt, &tags, CType::Void, (0, 0));
-    check_size(&rt, &tags, CType::Struct(7), (0, 0));
+    check_size(&rt, &tags, integer(Width::W1), laid_out(1, 1));
+    check_size(&rt, &tags, integer(Width::W2), laid_out(2, 2));
+    check_size(&rt, &tags, integer(Width::W4), laid_out(4, 4));
+    check_size(&rt, &tags, integer(Width::W8), laid_out(8, 8));
+    check_size(&rt, &tags, CType::Void, INCOMPLETE);
+    check_size(&rt, &tags, CType::Struct(7), INCOMPLETE);
     Ok(())
 }
 
@@ -106,24 +105,34 @@ fn sizes_of_plain_types(rt: HostRuntime) -> Result<(), Fail> {
 fn sizes_of_pointers_and_arrays(rt: HostRuntime) -> Result<(), Fail> {
     let alloc = rt.alloc();
     let tags = Tags::new(alloc);
-    check_size(&rt, &tags, pointer(alloc, CType::Void)?, (8, 8));
-    check_size(&rt, &tags, pointer(alloc, CType::Struct(7))?, (8, 8));
-    check_size(&rt, &tags, open_array(alloc, integer(Width::W4))?, (0, 0));
-    check_size(&rt, &tags, array(alloc, CType::Void, 3)?, (0, 0));
+    check_size(&rt, &tags, pointer(alloc, CType::Void)?, laid_out(8, 8));
+    check_size(
+        &rt,
+        &tags,
+        pointer(alloc, CType::Struct(7))?,
+        laid_out(8, 8),
+    );
+    check_size(
+        &rt,
+        &tags,
+        open_array(alloc, integer(Width::W4))?,
+        INCOMPLETE,
+    );
+    check_size(&rt, &tags, array(alloc, CType::Void, 3)?, INCOMPLETE);
     check_size(
         &rt,
         &tags,
         array(alloc, integer(Width::W1), 4194304)?,
-        (4194304, 1),
+        laid_out(4194304, 1),
     );
     check_size(
         &rt,
         &tags,
         array(alloc, integer(Width::W1), 4194305)?,
-        (0, 1),
+        TOO_BIG,
     );
     let wide = array(alloc, integer(Width::W8), 4294967295)?;
-    check_size(&rt, &tags, array(alloc, wide, 4294967295)?, (0, 1));
+    check_size(&rt, &tags, array(alloc, wide, 4294967295)?, TOO_BIG);
     Ok(())
 }
 
@@ -143,7 +152,7 @@ fn a_structure(rt: HostRuntime) -> Result<(), Fail> {
     let alloc = rt.alloc();
     let mut tags = Tags::new(alloc);
     let v = add_v(&rt, alloc, &mut tags)?;
-    check_size(&rt, &tags, CType::Struct(v), (28, 4));
+    check_size(&rt, &tags, CType::Struct(v), laid_out(28, 4));
     check_offset(&rt, &tags, v, 0, Some(0));
     check_offset(&rt, &tags, v, 1, Some(12));
     check_offset(&rt, &tags, v, 2, Some(16));
@@ -160,7 +169,7 @@ fn a_union(rt: HostRuntime) -> Result<(), Fail> {
     let v = add_v(&rt, alloc, &mut tags)?;
     let members = two(alloc, CType::Struct(v), integer(Width::W8))?;
     let u = add(&rt, &mut tags, complete(alloc, true, members)?)?;
-    check_size(&rt, &tags, CType::Union(u), (32, 8));
+    check_size(&rt, &tags, CType::Union(u), laid_out(32, 8));
     check_offset(&rt, &tags, u, 0, Some(0));
     check_offset(&rt, &tags, u, 1, Some(0));
     Ok(())
@@ -177,8 +186,61 @@ fn a_flexible_array(rt: HostRuntime) -> Result<(), Fail> {
         open_array(alloc, integer(Width::W2))?,
     )?;
     let tag = add(&rt, &mut tags, complete(alloc, false, members)?)?;
-    check_size(&rt, &tags, CType::Struct(tag), (2, 2));
+    check_size(&rt, &tags, CType::Struct(tag), laid_out(2, 2));
     check_offset(&rt, &tags, tag, 1, Some(2));
+    Ok(())
+}
+
+/// A structure of the members that isn't complete.
+fn add_incomplete(alloc: Global, tags: &mut Tags, members: Items<Member>) -> Result<u32, NoMemory> {
+    tags.add(TagDef {
+        name: Text::from_bytes(alloc, b"V")?,
+        is_union: false,
+        members,
+        complete: false,
+    })
+}
+
+/// `struct { char n; short open[]; char m; }` and `struct { char n; void v; char m; }`
+#[test]
+fn members_without_a_size(rt: HostRuntime) -> Result<(), Fail> {
+    let alloc = rt.alloc();
+    let mut tags = Tags::new(alloc);
+    let open = open_array(alloc, integer(Width::W2))?;
+    let members = three(alloc, integer(Width::W1), open, integer(Width::W1))?;
+    let tag = add_incomplete(alloc, &mut tags, members)?;
+    check_size(&rt, &tags, CType::Struct(tag), INCOMPLETE);
+    let of_tags = array(alloc, CType::Struct(tag), 2)?;
+    check_size(&rt, &tags, of_tags, INCOMPLETE);
+    check_offset(&rt, &tags, tag, 0, Some(0));
+    check_offset(&rt, &tags, tag, 1, Some(2));
+    check_offset(&rt, &tags, tag, 2, None);
+    let members = three(alloc, integer(Width::W1), CType::Void, integer(Width::W1))?;
+    let tag = add_incomplete(alloc, &mut tags, members)?;
+    check_offset(&rt, &tags, tag, 1, None);
+    check_offset(&rt, &tags, tag, 2, None);
+    Ok(())
+}
+
+/// `struct { char a[4194304]; char b; char c; }`, and `struct { char a; long b; char c[N]; }` with N of 4194288 and of
+/// one more: the members alone would stay within the limit.
+#[test]
+fn structures_at_the_limit(rt: HostRuntime) -> Result<(), Fail> {
+    let alloc = rt.alloc();
+    let mut tags = Tags::new(alloc);
+    let all = array(alloc, integer(Width::W1), 4194304)?;
+    let members = three(alloc, all, integer(Width::W1), integer(Width::W1))?;
+    let tag = add(&rt, &mut tags, complete(alloc, false, members)?)?;
+    check_size(&rt, &tags, CType::Struct(tag), TOO_BIG);
+    check_offset(&rt, &tags, tag, 1, Some(4194304));
+    check_offset(&rt, &tags, tag, 2, None);
+    for (count, expected) in [(4194288, laid_out(4194304, 8)), (4194289, TOO_BIG)] {
+        let rest = array(alloc, integer(Width::W1), count)?;
+        let members = three(alloc, integer(Width::W1), integer(Width::W8), rest)?;
+        let tag = add(&rt, &mut tags, complete(alloc, false, members)?)?;
+        check_size(&rt, &tags, CType::Struct(tag), expected);
+        check_offset(&rt, &tags, tag, 2, Some(16));
+    }
     Ok(())
 }
 
@@ -212,12 +274,12 @@ fn a_tag_completed_later(rt: HostRuntime) -> Result<(), Fail> {
     let alloc = rt.alloc();
     let mut tags = Tags::new(alloc);
     let node = add(&rt, &mut tags, open_node(alloc)?)?;
-    check_size(&rt, &tags, CType::Struct(node), (0, 0));
+    check_size(&rt, &tags, CType::Struct(node), INCOMPLETE);
     let def = complete_node(alloc, node)?;
     assert!(rt; tags.have_sizes(def.members.as_slice()));
     assert!(rt; is_incomplete(&tags, node));
     tags.set(node, def);
-    check_size(&rt, &tags, CType::Struct(node), (16, 8));
+    check_size(&rt, &tags, CType::Struct(node), laid_out(16, 8));
     check_offset(&rt, &tags, node, 1, Some(8));
     Ok(())
 }

@@ -1,14 +1,20 @@
 -- How high the tree of a source is: the nodes of the longest way down. Declarations of members, enumerators,
 -- declarators with initialisers, parameters and attributes are parts of the nodes that hold them. This project's own.
-use Rattle.std.specs.Prelude.{ℕ, suc, max, List, [], ◌∷◌, map, Option, None, Some}
+use Rattle.std.specs.Prelude.{ℕ, suc, ◌≤◌, max, List, [], ◌∷◌, map, All, Option, None, Some}
 use Rattle.std.specs.Option.{option_map_or}
 use Rattle.c_tree.specs.declared.nodes.Declarator.{Declarator, fold-Declarator}
 use Rattle.c_tree.specs.declared.nodes.Declarator.TheOpen.{Declarator-F, ExprKind-F, Params-F, Spec-F, Enumerator-F, Expr-F, MemberDecl-F, Param-F, TypeName-F}
+use Rattle.c_tree.specs.declared.nodes.Enumerator.{Enumerator, fold-Enumerator}
 use Rattle.c_tree.specs.declared.nodes.Expr.{Expr, fold-Expr}
+use Rattle.c_tree.specs.declared.nodes.ExprKind.{ExprKind, fold-ExprKind}
+use Rattle.c_tree.specs.declared.nodes.MemberDecl.{MemberDecl, fold-MemberDecl}
+use Rattle.c_tree.specs.declared.nodes.Param.{Param, fold-Param}
+use Rattle.c_tree.specs.declared.nodes.Params.{Params, fold-Params}
 use Rattle.c_tree.specs.declared.nodes.Spec.{Spec, fold-Spec}
 use Rattle.c_tree.specs.declared.nodes.TypeName.{TypeName, fold-TypeName}
 use Rattle.c_tree.specs.declared.externals.External.{External}
 use Rattle.c_tree.specs.declared.externals.External.TheVariants as external
+use Rattle.c_tree.specs.declared.externals.FileTree.{FileTree}
 use Rattle.c_tree.specs.declared.statements.ForHead.{ForHead}
 use Rattle.c_tree.specs.declared.statements.ForHead.TheVariants as head
 use Rattle.c_tree.specs.declared.statements.Init.{Init, fold-Init}
@@ -83,12 +89,32 @@ abbrev pub declarator_height : Declarator → ℕ
 declarator_height = fold-Declarator ℕ ℕ ℕ ℕ ℕ ℕ ℕ ℕ ℕ
     declarator_layer kind_layer params_layer spec_layer enumerator_layer expr_layer member_layer param_layer type_name_layer
 
+abbrev pub kind_height : ExprKind → ℕ
+kind_height = fold-ExprKind ℕ ℕ ℕ ℕ ℕ ℕ ℕ ℕ ℕ
+    declarator_layer kind_layer params_layer spec_layer enumerator_layer expr_layer member_layer param_layer type_name_layer
+
 abbrev pub expr_height : Expr → ℕ
 expr_height = fold-Expr ℕ ℕ ℕ ℕ ℕ ℕ ℕ ℕ ℕ
     declarator_layer kind_layer params_layer spec_layer enumerator_layer expr_layer member_layer param_layer type_name_layer
 
 abbrev pub spec_height : Spec → ℕ
 spec_height = fold-Spec ℕ ℕ ℕ ℕ ℕ ℕ ℕ ℕ ℕ
+    declarator_layer kind_layer params_layer spec_layer enumerator_layer expr_layer member_layer param_layer type_name_layer
+
+abbrev pub params_height : Params → ℕ
+params_height = fold-Params ℕ ℕ ℕ ℕ ℕ ℕ ℕ ℕ ℕ
+    declarator_layer kind_layer params_layer spec_layer enumerator_layer expr_layer member_layer param_layer type_name_layer
+
+abbrev pub enumerator_height : Enumerator → ℕ
+enumerator_height = fold-Enumerator ℕ ℕ ℕ ℕ ℕ ℕ ℕ ℕ ℕ
+    declarator_layer kind_layer params_layer spec_layer enumerator_layer expr_layer member_layer param_layer type_name_layer
+
+abbrev pub member_height : MemberDecl → ℕ
+member_height = fold-MemberDecl ℕ ℕ ℕ ℕ ℕ ℕ ℕ ℕ ℕ
+    declarator_layer kind_layer params_layer spec_layer enumerator_layer expr_layer member_layer param_layer type_name_layer
+
+abbrev pub param_height : Param → ℕ
+param_height = fold-Param ℕ ℕ ℕ ℕ ℕ ℕ ℕ ℕ ℕ
     declarator_layer kind_layer params_layer spec_layer enumerator_layer expr_layer member_layer param_layer type_name_layer
 
 abbrev pub type_name_height : TypeName → ℕ
@@ -146,3 +172,7 @@ external_height (external.Function specs declarator body place) = suc (max (spec
 -- how high a tree may be
 abbrev pub highest_tree : ℕ
 highest_tree = 400
+
+-- Each external declaration is within the limit.
+abbrev pub IsWithinHeight : FileTree → Type 0
+IsWithinHeight file = All (λ x. external_height x ≤ highest_tree) file.externals

@@ -1,10 +1,10 @@
 -- A typed tree whose numbers name what is there and whose counts are those of its bodies. This project's own.
-use Rattle.std.specs.Prelude.{◌≡◌, ℕ, ◌+◌, ◌<◌, ◌≤◌, ◌⊎◌, ⊤, Bool, true, false, List, length, All, slice_get, Some, IfSome, IsSomeAnd}
+use Rattle.std.specs.Prelude.{◌≡◌, ℕ, ◌+◌, ◌<◌, ◌≤◌, ◌⊎◌, ◌↔◌, ⊤, Bool, true, false, List, length, All, slice_get, Some, IfSome, IsSome, IsSomeAnd, IsTrue}
 use Rattle.std.specs.Option.{option_map}
 use Rattle.c_layout.specs.declared.types.CType.{CType, out-CType, every-CType}
 use Rattle.c_layout.specs.declared.types.CType.TheOpen.{CType-F}
 use Rattle.c_layout.specs.declared.tags.TagDef.{TagDef}
-use Rattle.c_tree.specs.declared.externals.FileTree.{FileTree}
+use Rattle.c_layout.specs.Library.{row_of}
 use Rattle.c_tree.specs.declared.programs.DataDef.{DataDef}
 use Rattle.c_tree.specs.declared.programs.FnDef.{FnDef}
 use Rattle.c_tree.specs.declared.programs.Link.{Link}
@@ -13,19 +13,12 @@ use Rattle.c_tree.specs.declared.programs.TypedTree.{TypedTree}
 use Rattle.c_tree.specs.declared.typed.Callee.{Callee}
 use Rattle.c_tree.specs.declared.typed.Callee.TheVariants.{Function, Library}
 use Rattle.c_tree.specs.declared.typed.TypedExpr.{TypedExpr, out-TypedExpr, every-TypedExpr}
-use Rattle.c_tree.specs.declared.typed.TypedInit.{TypedInit, every-TypedInit}
 use Rattle.c_tree.specs.declared.typed.TypedKind.{TypedKind}
-use Rattle.c_tree.specs.declared.typed.TypedForHead.{TypedForHead}
-use Rattle.c_tree.specs.declared.typed.TypedStmt.{TypedStmt, every-TypedStmt}
+use Rattle.c_tree.specs.declared.typed.TypedStmt.{TypedStmt}
 use Rattle.c_tree.specs.declared.typed.TypedKind.TheOpen.{TypedKind-F, TypedExpr-F}
-use Rattle.c_tree.specs.declared.typed.TypedInit.TheOpen.{TypedInit-F}
-use Rattle.c_tree.specs.declared.typed.TypedForHead.TheOpen.{TypedForHead-F, TypedStmt-F}
-use Rattle.c_tree.specs.Heights.{external_height, highest_tree}
+use Rattle.c_tree.specs.Bodies.{Throughout}
+use Rattle.c_tree.specs.Registers.{IsRegister}
 use Rattle.c_tree.specs.Weights.{function_counts}
-
--- Each external declaration is within the limit on heights.
-abbrev pub IsWithinHeight : FileTree → Type 0
-IsWithinHeight file = All (λ x. external_height x ≤ highest_tree) file.externals
 
 -- a number of something that is there
 abbrev pub IsThere : {A : Type 0} → List A → ℕ → Type 0
@@ -59,9 +52,10 @@ module _ (tags : List TagDef) where
   IsMemberThere true member ctype = PointsToMember member (out-CType ctype)
 
   module _ (functions : List FnDef) (objects : List DataDef) (locals : List LocalDef) where
+    -- a function of the file, or one that a header declares
     abbrev pub IsCalleeThere : Callee → Type 0
     IsCalleeThere (Function number) = IsThere functions number
-    IsCalleeThere (Library f) = ⊤
+    IsCalleeThere (Library f) = IsSome (row_of f).header
 
     abbrev pub KindNames : TypedKind-F TypedKind TypedExpr → Type 0
     KindNames (TypedKind-F.Local number) = IsThere locals number
@@ -78,41 +72,20 @@ module _ (tags : List TagDef) where
     abbrev pub IsExprThere : TypedExpr → Type 0
     IsExprThere = every-TypedExpr KindNames ExprNames
 
-    abbrev pub InitNames : TypedInit-F TypedInit → Type 0
-    InitNames (TypedInit-F.Expr e) = IsExprThere e
-    InitNames (TypedInit-F.List items place) = ⊤
-
-    abbrev pub IsInitThere : TypedInit → Type 0
-    IsInitThere = every-TypedInit InitNames
-
-    abbrev pub HeadNames : TypedForHead-F TypedForHead TypedStmt → Type 0
-    HeadNames (TypedForHead-F.Evaluate e) = IfSome e IsExprThere
-    HeadNames (TypedForHead-F.Variables variables) = ⊤
-
-    abbrev pub StmtNames : TypedStmt-F TypedForHead TypedStmt → Type 0
-    StmtNames (TypedStmt-F.Declare local init place) = IsThere locals local × IfSome init IsInitThere
-    StmtNames (TypedStmt-F.Expr e place) = IfSome e IsExprThere
-    StmtNames (TypedStmt-F.If test then_part else_part place) = IsExprThere test
-    StmtNames (TypedStmt-F.While test body place) = IsExprThere test
-    StmtNames (TypedStmt-F.Do body test place) = IsExprThere test
-    StmtNames (TypedStmt-F.For head test step body place) = IfSome test IsExprThere × IfSome step IsExprThere
-    StmtNames (TypedStmt-F.Switch subject items place) = IsExprThere subject
-    StmtNames (TypedStmt-F.Return value place) = IfSome value IsExprThere
-    StmtNames (TypedStmt-F.Case value place) = IsExprThere value
-    StmtNames _ = ⊤
-
     -- a statement whose numbers name what is there
     abbrev pub IsStmtThere : TypedStmt → Type 0
-    IsStmtThere = every-TypedStmt HeadNames StmtNames
+    IsStmtThere = Throughout (IsThere locals) IsExprThere
 
   -- a number of a parameter, from 1
   abbrev pub IsParameter : FnDef → ℕ → Type 0
   IsParameter f number = (1 ≤ number) × (number ≤ length f.params)
 
-  -- The parameters are the first locals, the attribute names parameters, and all numbers name what is there.
+  -- The parameters are the first locals, the attribute names parameters, the register variables are marked, and all
+  -- numbers name what is there.
   pub record IsFunctionThere (functions : List FnDef) (objects : List DataDef) (f : FnDef) : Type 0 where
     pub params : (k : ℕ) → k < length f.params → option_map (λ l. l.ctype) (slice_get f.locals k) ≡ slice_get f.params k
     pub named : IfSome f.alloc_size (λ a. IsParameter f a.0 × IfSome a.1 (IsParameter f))
+    pub registers : (k : ℕ) (l : LocalDef) → slice_get f.locals k ≡ Some l → IsTrue l.in_register ↔ IsRegister f k l
     pub gives : IsTypeThere f.result
     pub locals : All (λ l. IsTypeThere l.ctype) f.locals
     pub body : IsStmtThere functions objects f.locals f.body
@@ -131,10 +104,24 @@ pub record IsObjectThere (objects : List DataDef) (object : DataDef) : Type 0 wh
   pub links : All (IsLinkThere objects object) object.links
   pub apart : (i j : ℕ) (a b : Link) → i < j → slice_get object.links i ≡ Some a → slice_get object.links j ≡ Some b → AreApart a b
 
--- A typed tree whose numbers all name what is there, and whose counts are those of its bodies.
+-- A call of an inline function has the function of that number before this one.
+abbrev pub CallsBelow : List FnDef → (ℕ → ℕ) → ℕ → TypedKind-F TypedKind TypedExpr → Type 0
+CallsBelow functions rank caller (TypedKind-F.Call (Function number) args) =
+    IfSome (slice_get functions number) (λ f. IsTrue f.inlined → rank number < rank caller)
+CallsBelow functions rank caller _ = ⊤
+
+-- Inline calls form no cycle: there are ranks that fall along each of them. So the counts of bodies are one list.
+pub record HasOrder (functions : List FnDef) : Type 0 where
+  pub rank : ℕ → ℕ
+  pub falls : (k : ℕ) (f : FnDef) → slice_get functions k ≡ Some f →
+      Throughout (λ number. ⊤) (every-TypedExpr (CallsBelow functions rank k) (λ e. ⊤)) f.body
+
+-- A typed tree whose numbers all name what is there, whose inline calls form no cycle, and whose counts are those of
+-- its bodies. That it breaks no rule of typing is no part of it.
 pub record IsWellNumbered (tree : TypedTree) : Type 0 where
   pub tags : All (λ d. All (λ m. IsTypeThere tree.tags m.ctype) d.members) tree.tags
   pub functions : All (IsFunctionThere tree.tags tree.functions tree.objects) tree.functions
   pub objects : All (IsObjectThere tree.objects) tree.objects
   pub main : IsThere tree.functions tree.main
+  pub order : HasOrder tree.functions
   pub counts : All (λ f. f.counts ≡ function_counts tree.tags tree.functions f) tree.functions

@@ -2,6 +2,7 @@
 #![tactic(auto)]
 
 mod externals;
+mod laws;
 mod nodes;
 mod operators;
 mod programs;
@@ -12,6 +13,7 @@ mod typed;
 mod weights;
 
 pub use externals::{External, FileTree};
+pub use laws::counts_law;
 pub use nodes::{
     Aggregate, Attribute, BasicWord, Declarator, Enumerator, Expr, ExprKind, Identifier,
     MemberDecl, Param, Params, PointerWord, Spec, TypeName,

@@ -5,8 +5,8 @@ use c_layout::{CType, Tags};
 use fc_base::Text;
 use sqlite_items::Items;
 
-/// A parameter, or a variable of a block that isn't static. It is in a register where it is an integer or a pointer
-/// whose address is never taken, and else in memory.
+/// A parameter, or a variable of a block that isn't static. It is in a register where its type is an integer's or a
+/// pointer's and its own address is never taken, and else in memory.
 #[derive(Drop)]
 pub struct LocalDef {
     pub name: Text,

@@ -2,7 +2,7 @@
 
 use crate::{
     Counts, DataDef, Expr, ExprKind, External, FileTree, FnDef, LocalDef, PrefixOp, Stmt,
-    TypedStmt, TypedTree, frame_of, weight_of,
+    TypedExpr, TypedKind, TypedStmt, TypedTree, frame_of, weight_of,
 };
 use c_layout::{CType, Tags};
 use fc_base::{NoMemory, Place, Text};
@@ -112,5 +112,50 @@ fn trees_are_freed(rt: HostRuntime) -> Result<(), Fail> {
     }
     let file = FileTree { externals };
     assert_eq!(rt; file.externals.len(), 100_000);
+    Ok(())
+}
+
+/// A typed expression that is 400 nodes deep.
+fn deep_expression(alloc: Global) -> Result<TypedExpr, NoMemory> {
+    let mut expr = TypedExpr {
+        kind: TypedKind::Number(0),
+        ctype: CType::Void,
+        place: START,
+    };
+    for _ in 0..399 {
+        expr = TypedExpr {
+            kind: TypedKind::Prefix {
+                op: PrefixOp::Not,
+                of: Boxed::new(alloc, expr)?,
+            },
+            ctype: CType::Void,
+            place: START,
+        };
+    }
+    Ok(expr)
+}
+
+/// A statement of that expression.
+fn deep_typed_statement(alloc: Global) -> Result<TypedStmt, NoMemory> {
+    Ok(TypedStmt::Expr {
+        expr: Some(deep_expression(alloc)?),
+        place: START,
+    })
+}
+
+/// A wide list of statements, the last of them deep.
+fn typed_statements(alloc: Global) -> Result<Items<TypedStmt>, NoMemory> {
+    let mut items = Items::new(alloc);
+    for _ in 0..100_000 {
+        items.push(TypedStmt::Break { place: START })?;
+    }
+    items.push(deep_typed_statement(alloc)?)?;
+    Ok(items)
+}
+
+#[test]
+fn typed_trees_are_freed(rt: HostRuntime) -> Result<(), Fail> {
+    let items = typed_statements(rt.alloc())?;
+    assert_eq!(rt; items.len(), 100_001);
     Ok(())
 }

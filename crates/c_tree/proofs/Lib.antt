@@ -1,0 +1,3 @@
+pub mod NodeHeights
+pub mod RowCounts
+pub mod StatementHeights
