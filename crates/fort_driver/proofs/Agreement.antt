@@ -14,8 +14,9 @@ use Rattle.byte_machine.specs.Images.{IsImage, IsFunction, function_at, end_of, 
 use Rattle.byte_machine.specs.State.{Core, State, Program, whole_heap, stack_start, stack_frames, memory_size, are_valid, ending, with_core, overflowing, put, performed, next, after, standing_of}
 use Rattle.byte_machine.specs.Opening.{begun, first_core, first_end, first_memory, program_of, rounded}
 use Rattle.byte_machine.proofs.Steps.{next_is}
-use Rattle.fort_driver.specs.declared.forms.Form.{Form}
-use Rattle.fort_driver.specs.Forms.{IsForm, form_runs, call_place}
+use Rattle.c_front.specs.declared.Form.{Form}
+use Rattle.c_front.specs.Forms.{IsForm}
+use Rattle.fort_driver.specs.Forms.{form_runs}
 use Rattle.fort_driver.specs.Compiled.{form_code, form_function, form_image}
 use Rattle.fort_driver.specs.Fort.{Agrees}
 
@@ -108,7 +109,7 @@ stands s = (s.world.shown, standing_of s.core.stopped)
 -- what the form shows, and how it stands, by whether the call exceeds
 abbrev by_test : Form → Bool → Shown × Standing
 by_test form exceeds =
-    source_shown levels.Three false (Asked (call_place form) modes.M0 form.size (Some form.size) false ∷ Check (call_place form) form.size exceeds ∷ []) (Ended (ends.Exit form.result))
+    source_shown levels.Three false (Asked form.call modes.M0 form.size (Some form.size) false ∷ Check form.call form.size exceeds ∷ []) (Ended (ends.Exit form.result))
 
 -- within eleven instructions from this state on the machine has shown what the form shows, and stands so
 abbrev pub MeetsFrom : Form → State → Type 0

@@ -1,38 +1,25 @@
 -- The one answer that an outcome is, by the bytes under FILE.
-use Rattle.std.proofs.Common.{◌≡◌, ◌≢◌, ℕ, ◌+◌, ◌≤◌, ◌<◌, List, [], ◌∷◌, length, Option, Some, refl, sym, ◌∙◌, ap, subst, inl, inr, arith, decimal, length-append, slice_index_or, lit≤}
-use Rattle.std.proofs.lemmas.Fmt.{length-decimal-le}
+use Rattle.std.proofs.Common.{◌≡◌, ◌≢◌, ℕ, ◌≤◌, ◌<◌, List, [], length, Option, Some, Result, Ok, Err, refl, sym, ◌∙◌, ap, subst, inl, inr, arith, slice_index_or, lit≤}
 use Rattle.fc_base.specs.Outside.{Files}
 use Rattle.fc_base.specs.Runs.{Ended}
 use Rattle.fc_base.specs.declared.levels.End.{End}
 use Rattle.byte_machine.specs.State.{Core, Program}
 use Rattle.byte_machine.specs.Opening.{program_of, first_core}
 use Rattle.byte_machine.specs.Machines.{Loaded}
-use Rattle.fort_driver.specs.declared.forms.Form.{Form}
+use Rattle.fc_base.specs.declared.levels.Level.TheVariants.{Three}
+use Rattle.fc_base.specs.declared.refusals.Refusal.{Refusal}
+use Rattle.c_front.specs.declared.Form.{Form}
+use Rattle.c_front.specs.Forms.{IsForm}
+use Rattle.c_front.specs.Front.{Front}
+use Rattle.c_front.proofs.Phases.{form_is, one}
 use Rattle.fort_driver.specs.declared.outcomes.Outcome.{Outcome}
 use Rattle.fort_driver.specs.declared.outcomes.Outcome.TheVariants as outcomes
 use Rattle.fort_driver.specs.Commands.{default_steps}
 use Rattle.fort_driver.specs.Compiled.{form_image}
-use Rattle.fort_driver.specs.Forms.{IsForm, IsTextOf, form_text, form_runs}
-use Rattle.fort_driver.specs.Fort.{Holds, IsRun, HasRun, Runs, Answers, StoodStill, IsNoForm, longest_source}
+use Rattle.fort_driver.specs.Forms.{form_runs}
+use Rattle.fort_driver.specs.Fort.{Holds, IsRun, HasRun, Runs, Answers, StoodStill, longest_source}
 use Rattle.fort_driver.specs.Preparing.{IsReady, NotReady}
 use Rattle.fort_driver.proofs.Agreement.{ended_by, shown_then}
-
--- a form is short
-text_length : (form : Form) → IsForm form → length (form_text form) ≤ 1000
-unfolding form_text
-text_length form ok =
-    let size : length (decimal form.size) ≤ 4 = length-decimal-le 4 form.size (omega arith) (let h = ok.size in omega arith) (let h = ok.size in omega arith) in
-    let byte : length (decimal form.byte) ≤ 3 = length-decimal-le 3 form.byte (omega arith) (let h = ok.byte in omega arith) (let h = ok.byte in omega arith) in
-    let count : length (decimal form.count) ≤ 5 = length-decimal-le 5 form.count (omega arith) (let h = ok.count in omega arith) (let h = ok.count in omega arith) in
-    let result : length (decimal form.result) ≤ 3 = length-decimal-le 3 form.result (omega arith) (let h = ok.result in omega arith) (let h = ok.result in omega arith) in
-    simp length-append (omega arith)
-
-pub form_length : (source : List ℕ) (form : Form) → IsForm form → IsTextOf source form → length source ≤ longest_source
-form_length source form ok (inl same) = let short = text_length form ok in let e : length source ≡ length (form_text form) = ap length same in omega arith
-form_length source form ok (inr same) =
-    let short = text_length form ok in
-    let e : length source ≡ length (form_text form) + 1 = ap length same ∙ length-append (form_text form) (10 ∷ []) in
-    omega arith
 
 -- the words name one source and one image
 pub same_file : (words : List (List ℕ)) (a b c d : List ℕ) → IsRun words a b → IsRun words c d → a ≡ c
@@ -47,18 +34,28 @@ same_source files f file source fetched told here holds =
     let there : Holds (Some f) file fetched = subst (λ x. Holds x file fetched) told holds in
     cc (there, here)
 
+-- the front's outcomes of one source
+one_refusal : (source : List ℕ) (a b : Refusal) → Front Three source (Err a) → Front Three source (Err b) → a ≡ b
+one_refusal source a b first second = let same : ◌≡◌ {A = Result Form Refusal} (Err a) (Err b) = one Three source first second in cc
+
+one_form : (source : List ℕ) (a b : Form) → Front Three source (Ok a) → Front Three source (Ok b) → a ≡ b
+one_form source a b first second = let same : ◌≡◌ {A = Result Form Refusal} (Ok a) (Ok b) = one Three source first second in cc
+
+not_both : (source : List ℕ) (form : Form) (refusal : Refusal) → Front Three source (Ok form) → Front Three source (Err refusal) → ⊥
+not_both source form refusal read refused = let same : ◌≡◌ {A = Result Form Refusal} (Ok form) (Err refusal) = one Three source read refused in absurd (cc)
+
 -- the outcomes before a run
 pub not_ready_answers : (outcome : Outcome) (file image_name source : List ℕ) (files files' : Option Files) (f : Files) (fetches fetches' keeps keeps' : List ℕ → ℕ)
     → NotReady outcome file image_name files files' fetches fetches' keeps keeps' → files ≡ Some f → f file ≡ Some source
     → StoodStill (fetches file) (fetches' file) → (none : Type 0) → (none → StoodStill (keeps image_name) (keeps' image_name)) → Answers outcome source none
 not_ready_answers outcomes.StoreFault file image_name source files files' f fetches fetches' keeps keeps' (inl failed) told here still none kept = absurd (still failed.1)
 not_ready_answers outcomes.StoreFault file image_name source files files' f fetches fetches' keeps keeps' (inr failed) told here still none kept =
-    let form = failed.3.1 in
     let same = same_source files f file source failed.3.0 told here failed.3.2 in
-    let text = subst (λ s. IsTextOf s form) same failed.3.4 in
+    let short : length source ≤ longest_source = subst (λ s. length s ≤ longest_source) same failed.3.3 in
+    let read = subst (λ s. Front Three s (Ok failed.3.1)) same failed.3.4 in
     record {
-      too_long = λ long. let short = form_length source form failed.3.3 text in absurd (omega arith);
-      refused = λ short no_form. absurd (no_form form failed.3.3 text);
+      too_long = λ long. absurd (omega arith);
+      refused = λ refusal _ front. absurd (not_both source failed.3.1 refusal read front);
       accepted = λ _ _ _ all. absurd (kept all failed.1);
       ended = λ _ _ _ _ _ all. absurd (kept all failed.1);
     }
@@ -67,23 +64,23 @@ not_ready_answers outcomes.TooLong file image_name source files files' f fetches
     let over : longest_source < length source = subst (λ s. longest_source < length s) same long.1.2 in
     record {
       too_long = λ _. inl refl;
-      refused = λ short no_form. absurd (omega arith);
-      accepted = λ form ok text all. let short = form_length source form ok text in absurd (omega arith);
-      ended = λ form end ok text is all. let short = form_length source form ok text in absurd (omega arith);
+      refused = λ refusal short front. absurd (omega arith);
+      accepted = λ form short front all. absurd (omega arith);
+      ended = λ form end short front is all. absurd (omega arith);
     }
 not_ready_answers (outcomes.Refused refusal) file image_name source files files' f fetches fetches' keeps keeps' refused told here still none kept =
-    let same = same_source files f file source refused.2.0 told here refused.2.1 in
-    let short : length source ≤ longest_source = subst (λ s. length s ≤ longest_source) same refused.2.2 in
-    let no_form = subst IsNoForm same refused.2.3 in
+    let same = same_source files f file source refused.1.0 told here refused.1.1 in
+    let short : length source ≤ longest_source = subst (λ s. length s ≤ longest_source) same refused.1.2 in
+    let read = subst (λ s. Front Three s (Err refusal)) same refused.1.3 in
     record {
       too_long = λ long. absurd (omega arith);
-      refused = λ _ _. inl (ap outcomes.Refused refused.1);
-      accepted = λ form ok text all. absurd (no_form form ok text);
-      ended = λ form end ok text is all. absurd (no_form form ok text);
+      refused = λ other _ front. inl (ap outcomes.Refused (one_refusal source refusal other read front));
+      accepted = λ form _ front all. absurd (not_both source form refusal front read);
+      ended = λ form end _ front is all. absurd (not_both source form refusal front read);
     }
 not_ready_answers outcomes.NoMemory file image_name source files files' f fetches fetches' keeps keeps' left told here still none kept = record {
   too_long = λ _. inr refl;
-  refused = λ _ _. inr refl;
+  refused = λ _ _ _. inr refl;
   accepted = λ _ _ _ _. inr refl;
   ended = λ _ _ _ _ _ _. inr refl;
 }
@@ -126,21 +123,20 @@ pub ready_answers : (outcome : Outcome) (file image_name source : List ℕ) (fil
     → (none → (outcome ≢ outcomes.InputFault) × (outcome ≢ outcomes.OutFault) × (outcome ≢ outcomes.ErrFault)) → Answers outcome source none
 ready_answers outcome file image_name source files files' f machine i i' o o' e e' ready runs told here none kept =
     let form = ready.image_kept.form in
-    let ok = ready.image_kept.form_ok in
     let same = same_source files f file source ready.image_kept.source told here ready.image_kept.fetched in
-    let text = subst (λ s. IsTextOf s form) same ready.image_kept.is_form in
+    let short : length source ≤ longest_source = subst (λ s. length s ≤ longest_source) same ready.image_kept.short in
+    let read = subst (λ s. Front Three s (Ok form)) same ready.image_kept.is_form in
     let program = ready.program ∙ ap program_of ready.compiled in
     let core = ready.core ∙ ap (λ image. first_core image []) ready.compiled in
     let form_run = subst (λ k. Runs outcome default_steps (program_of (form_image form)) k i i' o o' e e') core
     (subst (λ p. Runs outcome default_steps p machine.core i i' o o' e e') program runs) in
     record {
-      too_long = λ long. let short = form_length source form ok text in absurd (omega arith);
-      refused = λ short no_form. absurd (no_form form ok text);
+      too_long = λ long. absurd (omega arith);
+      refused = λ refusal _ front. absurd (not_both source form refusal read front);
       accepted = λ _ _ _ _. inl (has_run outcome default_steps machine.program machine.core i i' o o' e e' runs);
-      ended = λ other end other_ok other_text is all.
-          let one = ready.only other other_ok (subst (λ s. IsTextOf s other) (sym same) other_text) in
-          let mine : (form_runs form 0).1 ≡ Ended end = subst (λ x. (form_runs x 0).1 ≡ Ended end) one is in
-          inl (run_ends outcome form end i i' o o' e e' ok mine form_run (kept all).0 (kept all).1 (kept all).2);
+      ended = λ other end _ front is all.
+          let mine : (form_runs form 0).1 ≡ Ended end = subst (λ x. (form_runs x 0).1 ≡ Ended end) (one_form source other form front read) is in
+          inl (run_ends outcome form end i i' o o' e e' (form_is read) mine form_run (kept all).0 (kept all).1 (kept all).2);
     }
 
 -- neither kind of outcome is Usage

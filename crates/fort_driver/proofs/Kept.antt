@@ -1,10 +1,12 @@
 -- What was fetched and kept, as the clauses of the top call say it.
-use Rattle.std.proofs.Common.{◌≡◌, ℕ, ◌<◌, List, length, Option, None, Some, IsSomeAnd, sym, subst, replicate, suc, arith, refl}
+use Rattle.std.proofs.Common.{◌≡◌, ℕ, ◌<◌, ◌≤◌, List, length, Option, None, Some, Ok, IsSomeAnd, sym, subst, replicate, suc, arith, refl}
 use Rattle.std.proofs.lemmas.List.{length-replicate}
 use Rattle.fc_base.specs.Outside.{Files, IfTold, Puts}
-use Rattle.fort_driver.specs.declared.forms.Form.{Form}
+use Rattle.fc_base.specs.declared.levels.Level.TheVariants.{Three}
+use Rattle.c_front.specs.declared.Form.{Form}
+use Rattle.c_front.specs.Front.{Front}
+use Rattle.c_front.proofs.Phases.{form_is}
 use Rattle.fort_driver.specs.Compiled.{form_image}
-use Rattle.fort_driver.specs.Forms.{IsForm, IsTextOf}
 use Rattle.fort_driver.specs.Spelling.{image_bytes}
 use Rattle.fort_driver.specs.Fort.{Holds, KeepsImage, longest_source}
 use Rattle.fort_driver.proofs.Agreement.{image_ok, agrees}
@@ -25,16 +27,16 @@ long_source (Some f) name long = go (f name) refl long where
 
 -- the form's image was kept
 abbrev pub kept_image : (file image_name : List ℕ) (files fetched files' : Option Files) (source read bytes : List ℕ) (form : Form)
-    → Holds files file source → fetched ≡ files → read ≡ source → IsForm form → IsTextOf read form
+    → Holds files file source → length source ≤ longest_source → fetched ≡ files → read ≡ source → Front Three read (Ok form)
     → bytes ≡ image_bytes (form_image form) → Puts image_name bytes fetched files' → KeepsImage file image_name files files' (form_image form)
-kept_image file image_name files fetched files' source read bytes form holds same_files same_source ok text spelled puts = record {
+kept_image file image_name files fetched files' source read bytes form holds short same_files same_source is_form spelled puts = record {
   source = source;
   fetched = holds;
+  short = short;
   form = form;
-  form_ok = ok;
-  is_form = subst (λ s. IsTextOf s form) same_source text;
+  is_form = subst (λ s. Front Three s (Ok form)) same_source is_form;
   bytes = bytes;
   kept = subst (λ f. Puts image_name bytes f files') same_files puts;
-  spelled = record { image_ok = image_ok form ok; spelled = spelled };
-  agrees = agrees form ok;
+  spelled = record { image_ok = image_ok form (form_is is_form); spelled = spelled };
+  agrees = agrees form (form_is is_form);
 }

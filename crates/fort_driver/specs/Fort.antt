@@ -1,20 +1,21 @@
 -- What the top call promises. This project's own.
-use Rattle.std.specs.Prelude.{◌≡◌, ◌≢◌, ℕ, ◌+◌, ◌*◌, ◌≤◌, ◌<◌, ◌^◌, List, length, Option, None, Some, ⊤, ◌⊎◌}
+use Rattle.std.specs.Prelude.{◌≡◌, ◌≢◌, ℕ, ◌+◌, ◌*◌, ◌≤◌, ◌<◌, ◌^◌, List, length, Option, None, Some, Ok, Err, ⊤, ◌⊎◌}
 use Rattle.std.specs.List.{AllByRecursion}
 use Rattle.fc_base.specs.Outside.{Files, IfTold, Puts, KeepsOthers, Rose}
 use Rattle.fc_base.specs.Runs.{Ended, Follows}
 use Rattle.fc_base.specs.declared.levels.End.{End}
+use Rattle.fc_base.specs.declared.levels.Level.TheVariants.{Three}
 use Rattle.fc_base.specs.declared.refusals.Refusal.{Refusal}
-use Rattle.fc_base.specs.declared.rules.Rule.TheVariants as rules
+use Rattle.c_front.specs.declared.Form.{Form}
+use Rattle.c_front.specs.Front.{Front}
 use Rattle.byte_machine.specs.Images.{PlainImage, function_at}
 use Rattle.byte_machine.specs.Opening.{ArgumentsFit, first_core, machine_runs, program_of}
 use Rattle.byte_machine.specs.Machines.{Advances, FailsAfter}
 use Rattle.byte_machine.specs.State.{Core, Program}
-use Rattle.fort_driver.specs.declared.forms.Form.{Form}
 use Rattle.fort_driver.specs.declared.outcomes.Outcome.{Outcome}
 use Rattle.fort_driver.specs.declared.outcomes.Outcome.TheVariants as outcomes
 use Rattle.fort_driver.specs.Commands.{Means, run_of}
-use Rattle.fort_driver.specs.Forms.{IsForm, IsTextOf, form_runs}
+use Rattle.fort_driver.specs.Forms.{form_runs}
 use Rattle.fort_driver.specs.Spelling.{SpellsImage}
 
 -- the longest source, in bytes
@@ -50,13 +51,13 @@ abbrev pub Holds : Option Files → List ℕ → List ℕ → Type 0
 Holds files name bytes = IfTold files (λ f. f name ≡ Some bytes)
 
 -- the store is the old one with an image under IMAGE, spelled in bytes, that agrees with the form of the bytes that
--- were fetched under FILE
+-- were fetched under FILE: what the front gives of them at level 3
 pub record KeepsImage (file image_name : List ℕ) (files files' : Option Files) (image : PlainImage) : Type 0 where
   pub source : List ℕ
   pub fetched : Holds files file source
+  pub short : length source ≤ longest_source
   pub form : Form
-  pub form_ok : IsForm form
-  pub is_form : IsTextOf source form
+  pub is_form : Front Three source (Ok form)
   pub bytes : List ℕ
   pub kept : Puts image_name bytes files files'
   pub spelled : SpellsImage bytes image
@@ -118,9 +119,9 @@ pub record IsForms (words : List (List ℕ)) (files : Option Files) : Type 0 whe
   pub command : IsRun words file image_name
   pub source : List ℕ
   pub fetched : Holds files file source
+  pub short : length source ≤ longest_source
   pub form : Form
-  pub form_ok : IsForm form
-  pub is_form : IsTextOf source form
+  pub is_form : Front Three source (Ok form)
 
 -- the store failed: by a fetch of FILE, which changes nothing but that count, or by a keep of IMAGE for a source that is the
 -- form, which changes that count, and after which the bytes under IMAGE alone are unknown
@@ -141,18 +142,10 @@ abbrev pub IsTooLong : List (List ℕ) → Option Files → Type 0
 IsTooLong words files =
     (file image_name source : List ℕ) × IsRun words file image_name × Holds files file source × (longest_source < length source)
 
--- the refusal of a source that isn't the form
-abbrev pub not_this_form : Refusal
-not_this_form = record { rule = rules.NotThisForm; place = record { line = 1; col = 1 } }
-
--- a source is none of the forms
-abbrev pub IsNoForm : List ℕ → Type 0
-IsNoForm source = (form : Form) → IsForm form → IsTextOf source form → ⊥
-
--- the bytes under FILE are no form
-abbrev pub IsRefused : List (List ℕ) → Option Files → Type 0
-IsRefused words files =
-    (file image_name source : List ℕ) × IsRun words file image_name × Holds files file source × (length source ≤ longest_source) × IsNoForm source
+-- the bytes under FILE are refused so: by the first rule that they break, where they break it
+abbrev pub IsRefused : List (List ℕ) → Option Files → Refusal → Type 0
+IsRefused words files refusal =
+    (file image_name source : List ℕ) × IsRun words file image_name × Holds files file source × (length source ≤ longest_source) × Front Three source (Err refusal)
 
 -- a count that didn't rise
 abbrev pub StoodStill : ℕ → ℕ → Type 0
@@ -166,9 +159,9 @@ IsAnswer result answer = (result ≡ answer) ⊎ (result ≡ outcomes.NoMemory)
 -- either, a form has run, and to its end, since the bound leaves room for all its instructions
 pub record Answers (result : Outcome) (source : List ℕ) (none_failed : Type 0) : Type 0 where
   pub too_long : longest_source < length source → IsAnswer result outcomes.TooLong
-  pub refused : length source ≤ longest_source → IsNoForm source → IsAnswer result (outcomes.Refused not_this_form)
-  pub accepted : (form : Form) → IsForm form → IsTextOf source form → none_failed → HasRun result ⊎ (result ≡ outcomes.NoMemory)
-  pub ended : (form : Form) (end : End) → IsForm form → IsTextOf source form → (form_runs form 0).1 ≡ Ended end → none_failed
+  pub refused : (refusal : Refusal) → length source ≤ longest_source → Front Three source (Err refusal) → IsAnswer result (outcomes.Refused refusal)
+  pub accepted : (form : Form) → length source ≤ longest_source → Front Three source (Ok form) → none_failed → HasRun result ⊎ (result ≡ outcomes.NoMemory)
+  pub ended : (form : Form) (end : End) → length source ≤ longest_source → Front Three source (Ok form) → (form_runs form 0).1 ≡ Ended end → none_failed
       → IsAnswer result (outcomes.Ran end)
 
 -- no object failed but in a fetch of FILE: the counts of a keep of IMAGE, of input, out and err stood still

@@ -1,6 +1,5 @@
 pub mod Commands
 pub mod Compiled
-pub mod FormReading
 pub mod Forms
 pub mod Fort
 pub mod Outcomes

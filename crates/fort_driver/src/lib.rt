@@ -3,7 +3,6 @@
 
 mod commands;
 mod compiled;
-mod forms;
 mod outcomes;
 mod spelling;
 mod top;

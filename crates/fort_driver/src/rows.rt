@@ -9,10 +9,12 @@ use std::test::Fail;
 
 const OVERFLOW: &[u8; 45] = b"*** buffer overflow detected ***: terminated\n";
 
-const REFUSED: Outcome = Outcome::Refused(Refusal {
-    rule: Rule::NotThisForm,
-    place: Place { line: 1, col: 1 },
-});
+fn refused(rule: Rule, line: u32, col: u32) -> Outcome {
+    Outcome::Refused(Refusal {
+        rule,
+        place: Place { line, col },
+    })
+}
 
 fn run_words(alloc: Global) -> Result<Words, NoMemory> {
     let mut words = Words::new(alloc);
@@ -119,20 +121,37 @@ fn forms_run_to_their_ends(rt: HostRuntime) -> Result<(), Fail> {
         OVERFLOW,
         true,
     )?;
-    check_form(&rt, alloc, (0, 1, 0, 7), REFUSED, b"", false)?;
+    let other = refused(Rule::NotThisForm, 1, 1);
+    check_form(&rt, alloc, (0, 1, 0, 7), other, b"", false)?;
+    let spaced = b"#include <string.h>\nint main(void) { char  b[8]; memset(b, 65, 8); return 3; }";
+    check_source(&rt, alloc, spaced, Outcome::Ran(End::Exit(3)), b"", true)?;
+    let level =
+        b"#include <string.h>\nint main(void) { char b[8]; memset(b, 65, 8); return _FORTIFY_SOURCE; }";
+    check_source(&rt, alloc, level, Outcome::Ran(End::Exit(3)), b"", true)?;
     Ok(())
 }
 
 #[test]
 fn refusals_keep_nothing(rt: HostRuntime) -> Result<(), Fail> {
     let alloc = rt.alloc();
-    check_source(&rt, alloc, b"", REFUSED, b"", false)?;
-    let spaced = b"#include <string.h>\nint main(void) { char  b[8]; memset(b, 65, 8); return 3; }";
-    check_source(&rt, alloc, spaced, REFUSED, b"", false)?;
-    let long = vec![in alloc; b' '; 1_048_577]?;
+    let rows: [(&[u8], Rule, u32, u32); 8] = [
+        (b"", Rule::NotThisForm, 1, 1),
+        (b"int main(void) { return 0; }", Rule::NotThisForm, 1, 1),
+        (b"'\\400'", Rule::BadEscape, 1, 2),
+        (b"#error x\n\"a\n", Rule::OpenText, 2, 1),
+        (b"int x;\n@", Rule::BadByte, 2, 1),
+        (b"#define f(x) x x\nf(1, 2)", Rule::MacroArguments, 2, 1),
+        (b"int x;\n#if 1", Rule::OpenConditional, 2, 1),
+        (b"#define a 1\n#define a 2\n#error", Rule::Redefined, 2, 1),
+    ];
+    for (source, rule, line, col) in rows {
+        check_source(&rt, alloc, source, refused(rule, line, col), b"", false)?;
+    }
+    let long = vec![in alloc; b'@'; 1_048_577]?;
     check_source(&rt, alloc, &long, Outcome::TooLong, b"", false)?;
     let longest = vec![in alloc; b' '; 1_048_576]?;
-    check_source(&rt, alloc, &longest, REFUSED, b"", false)?;
+    let other = refused(Rule::NotThisForm, 1, 1);
+    check_source(&rt, alloc, &longest, other, b"", false)?;
     Ok(())
 }
 

@@ -1,10 +1,9 @@
-//! The statuses and lines of the outcomes, the form's edges, the words of `run`, and an image's bytes.
+//! The statuses and lines of the outcomes, the words of `run`, and an image's bytes.
 
 ghost use Rattle.std.specs.Prelude.{IfOk};
 ghost use Rattle.byte_machine.specs.Images.{plain_image, IsImage};
 
 use crate::commands::run_names;
-use crate::forms::{Form, read_form};
 use crate::outcomes::{Outcome, fault_line, status};
 use crate::spelling::write_image;
 use bm_isa::Instr;
@@ -62,6 +61,17 @@ fn outcomes_have_a_status_and_a_line(rt: HostRuntime) -> Result<(), Fail> {
         122,
         "fortc: 1:1: refused: not-this-form\n",
     )?;
+    let refusal = Refusal {
+        rule: Rule::MacroArguments,
+        place: Place { line: 2, col: 401 },
+    };
+    check_outcome(
+        &rt,
+        alloc,
+        Outcome::Refused(refusal),
+        122,
+        "fortc: 2:401: refused: macro-arguments\n",
+    )?;
     let undefined = Outcome::Undefined {
         kind: UndefKind::OutOfObject,
         place: Place { line: 12, col: 305 },
@@ -74,67 +84,6 @@ fn outcomes_have_a_status_and_a_line(rt: HostRuntime) -> Result<(), Fail> {
         "fortc: undefined out-of-object at 12:305\n",
     )?;
     Ok(())
-}
-
-fn form(size: u32, byte: u32, count: u32, returned: u32) -> Option<Form> {
-    Some(Form {
-        size,
-        byte,
-        count,
-        result: returned,
-    })
-}
-
-#[test]
-fn the_form_is_read(rt: HostRuntime) {
-    for (text, expected) in [
-        (
-            "#include <string.h>\nint main(void) { char b[8]; memset(b, 65, 8); return 3; }",
-            form(8, 65, 8, 3),
-        ),
-        (
-            "#include <string.h>\nint main(void) { char b[8]; memset(b, 65, 8); return 3; }\n",
-            form(8, 65, 8, 3),
-        ),
-        (
-            "#include <string.h>\nint main(void) { char b[1]; memset(b, 0, 0); return 255; }",
-            form(1, 0, 0, 255),
-        ),
-        (
-            "#include <string.h>\nint main(void) { char b[4096]; memset(b, 255, 4097); return 0; }",
-            form(4096, 255, 4097, 0),
-        ),
-        (
-            "#include <string.h>\nint main(void) { char b[8]; memset(b, 65, 65535); return 3; }",
-            form(8, 65, 65535, 3),
-        ),
-    ] {
-        assert_eq!(rt; read_form(text.as_bytes()), expected);
-    }
-}
-
-#[test]
-fn other_sources_are_not_read(rt: HostRuntime) {
-    for text in [
-        "",
-        "#include <string.h>\nint main(void) { char b[0]; memset(b, 65, 8); return 3; }",
-        "#include <string.h>\nint main(void) { char b[4097]; memset(b, 65, 8); return 3; }",
-        "#include <string.h>\nint main(void) { char  b[8]; memset(b, 65, 8); return 3; }",
-        "#include <string.h>\nint main(void) { char b[08]; memset(b, 65, 8); return 3; }",
-        "#include <string.h>\nint main(void) { char b[+8]; memset(b, 65, 8); return 3; }",
-        "#include <string.h>\nint main(void) { char b[]; memset(b, 65, 8); return 3; }",
-        "#include <string.h>\nint main(void) { char b[8]; memset(b, 256, 8); return 3; }",
-        "#include <string.h>\nint main(void) { char b[8]; memset(b, 65, 65536); return 3; }",
-        "#include <string.h>\nint main(void) { char b[8]; memset(b, 65, 4294967304); return 3; }",
-        "#include <string.h>\nint main(void) { char b[8]; memset(b, 65, 8); return 256; }",
-        "#include <string.h>\nint main(void) { char b[8]; memset(b, 65, 8); return 3; }\n\n",
-        "#include <string.h>\nint main(void) { char b[8]; memset(b, 65, 8); return 3; } ",
-        "#include <string.h>\nint main(void) { char b[8]; memset(b, 65, 8); return 3; ",
-        "#include <string.h>\r\nint main(void) { char b[8]; memset(b, 65, 8); return 3; }",
-    ] {
-        assert_eq!(rt; read_form(text.as_bytes()), None, "{text}");
-    }
-    assert_eq!(rt; read_form(b"\xff"), None);
 }
 
 fn check_words(

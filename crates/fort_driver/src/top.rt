@@ -4,23 +4,22 @@ ghost use Rattle.std.specs.Prelude.{◌≡◌, ◌≢◌, ◌↔◌, ℕ, ◌≤
 ghost use Rattle.fc_base.specs.Outside.{Files, IfTold, Rose};
 ghost use Rattle.fc_base.specs.declared.levels.End.{End};
 ghost use Rattle.fc_base.specs.declared.refusals.Refusal.{Refusal};
+ghost use Rattle.c_front.specs.Forms.{IsForm};
 ghost use Rattle.byte_machine.specs.Images.{PlainImage, plain_image};
 ghost use Rattle.byte_machine.specs.Opening.{program_of, first_core};
-ghost use Rattle.fort_driver.specs.declared.forms.Form.{Form};
 ghost use Rattle.fort_driver.specs.Commands.{IsUsage, default_steps};
 ghost use Rattle.fort_driver.specs.Compiled.{form_image};
-ghost use Rattle.fort_driver.specs.Forms.{IsForm, IsTextOf};
 ghost use Rattle.fort_driver.specs.Spelling.{image_bytes};
-ghost use Rattle.fort_driver.specs.Fort.{Keeps, KeepsSome, KeepsCounts, Ran, Runs, HasRun, HasNotRun, StoreFailed, IsRun, IsTooLong, IsRefused, IsNoForm, StoodStill, NoneFailed, Answers, Holds, not_this_form, longest_source};
+ghost use Rattle.fort_driver.specs.Fort.{Keeps, KeepsSome, KeepsCounts, Ran, Runs, HasRun, HasNotRun, StoreFailed, IsRun, IsTooLong, IsRefused, StoodStill, NoneFailed, Answers, Holds, longest_source};
 ghost use Rattle.fort_driver.specs.Preparing.{IsReady, NotReady, KeepsOtherCounts};
 
 use crate::commands::run_names;
 use crate::compiled::compile;
-use crate::forms::{Form, read_form};
 use crate::outcomes::Outcome;
 use crate::spelling::write_image;
 use byte_machine::{Image, Machine, Stop};
-use fc_base::{FetchFault, KeepFault, NoMemory, Place, Refusal, Rule, Sink, Source, Store, Words};
+use c_front::{Form, read_source};
+use fc_base::{Fault, FetchFault, KeepFault, Level, NoMemory, Sink, Source, Store, Words};
 use std::alloc::Global;
 
 /// The longest source, in bytes.
@@ -28,12 +27,6 @@ const LONGEST_SOURCE: usize = 1_048_576;
 
 /// How many instructions a run may take.
 const DEFAULT_STEPS: u64 = 100_000_000;
-
-/// The refusal of a source that isn't the form.
-const NOT_THIS_FORM: Outcome = Outcome::Refused(Refusal {
-    rule: Rule::NotThisForm,
-    place: Place { line: 1, col: 1 },
-});
 
 /// An image and its bytes.
 #[derive(Drop)]
@@ -72,8 +65,10 @@ fn prepare<S: Store>(
         Err(FetchFault::TooLong) => return Err(Outcome::TooLong),
         Err(FetchFault::NoMemory) => return Err(Outcome::NoMemory),
     };
-    let Some(form) = read_form(&source) else {
-        return Err(NOT_THIS_FORM);
+    let form = match read_source(alloc, &source, Level::Three) {
+        Ok(form) => form,
+        Err(Fault::Refused(refusal)) => return Err(Outcome::Refused(refusal)),
+        Err(Fault::NoMemory) => return Err(Outcome::NoMemory),
     };
     let Ok(built) = build(alloc, &form) else {
         return Err(Outcome::NoMemory);
@@ -140,7 +135,7 @@ pub fn fort<S: Store, I: Source, O: Sink, E: Sink>(
         (S.fetch_count store.old) (S.fetch_count store.new) (S.keep_count store.old) (S.keep_count store.new) }
     ensures too_long { result ≡ Outcome.TooLong → IsTooLong words.now (S.files store.old) × (S.files store.new ≡ S.files store.old) }
     ensures refused { (refusal : Refusal) → result ≡ Outcome.Refused refusal →
-        (refusal ≡ not_this_form) × IsRefused words.now (S.files store.old) × (S.files store.new ≡ S.files store.old) }
+        IsRefused words.now (S.files store.old) refusal × (S.files store.new ≡ S.files store.old) }
     ensures no_memory { result ≡ Outcome.NoMemory →
         (S.files store.new ≡ S.files store.old) ⊎ KeepsSome words.now (S.files store.old) (S.files store.new) }
     ensures input_fault { result ≡ Outcome.InputFault → Rose (I.count input.old) (I.count input.new) }

@@ -1,0 +1,4 @@
+pub mod Sameness
+pub mod Reading
+pub mod Phases
+pub mod Numbers

@@ -1,0 +1,23 @@
+-- What a source comes to before it is compiled, phase after phase: its form, or the first refusal. This project's own.
+use Rattle.std.specs.Prelude.{◌≡◌, ℕ, List, Result, Ok, Err}
+use Rattle.fc_base.specs.declared.Level.{Level}
+use Rattle.fc_base.specs.declared.Refusal.{Refusal}
+use Rattle.fc_base.specs.declared.Rule.TheVariants.{NotThisForm}
+use Rattle.c_tokens.specs.declared.Token.{Token}
+use Rattle.c_lexer.specs.Lexed.{lexed}
+use Rattle.c_expansion.specs.Expansion.{IsExpanded}
+use Rattle.c_front.specs.declared.forms.Form.{Form}
+use Rattle.c_front.specs.Forms.{IsForm, IsListOf, HaveNoForm}
+
+-- the refusal of a source that isn't the form
+abbrev pub not_this_form : Refusal
+not_this_form = record { rule = NotThisForm; place = record { line = 1; col = 1 } }
+
+-- Front level source outcome: where `_FORTIFY_SOURCE` is the level. The source is lexed whole, then its tokens are
+-- preprocessed whole, then they are read; the phase that refuses first gives the outcome.
+pub data Front (level : Level) (source : List ℕ) : Result Form Refusal → Type 0 where
+  unlexed : {refusal : Refusal} → lexed source ≡ Err refusal → Front level source (Err refusal)
+  unexpanded : {tokens : List Token} {refusal : Refusal} → lexed source ≡ Ok tokens → IsExpanded level tokens (Err refusal) → Front level source (Err refusal)
+  no_form : {tokens expanded : List Token} → lexed source ≡ Ok tokens → IsExpanded level tokens (Ok expanded) → HaveNoForm expanded → Front level source (Err not_this_form)
+  some_form : {tokens expanded : List Token} {form : Form} → lexed source ≡ Ok tokens → IsExpanded level tokens (Ok expanded) → IsForm form → IsListOf expanded form
+      → Front level source (Ok form)
