@@ -75,7 +75,7 @@ fn is_defined(kind: &TokenKind) -> bool
     }
 }
 
-pub fn item<'a>(alloc: Global, kind: &'a TokenKind, token: &Token) -> Item<'a>
+pub fn item<'a>(kind: &'a TokenKind, token: &Token) -> Item<'a>
     ensures { view result ≡ item (record token.now { kind = kind.now }) }
 {
     Item {
@@ -83,23 +83,17 @@ pub fn item<'a>(alloc: Global, kind: &'a TokenKind, token: &Token) -> Item<'a>
         place: token.place,
         starts_line: token.starts_line,
         spaced: token.spaced,
-        hide: HideSet::empty(alloc),
+        hide: HideSet::empty(),
     }
 }
 
 /// 1 or 0, where `defined` stood.
-fn answer<'a>(
-    alloc: Global,
-    tokens: &'a Builtins,
-    macros: &Macros<'a>,
-    token: &Token,
-    name: &[u8],
-) -> Item<'a>
+fn answer<'a>(tokens: &'a Builtins, macros: &Macros<'a>, token: &Token, name: &[u8]) -> Item<'a>
     ensures { view result ≡ item (answer (table macros.now) token.now name.now) }
 {
     match find(macros, name) {
-        Some(_) => item(alloc, &tokens.one, token),
-        None => item(alloc, &tokens.zero, token),
+        Some(_) => item(&tokens.one, token),
+        None => item(&tokens.zero, token),
     }
 }
 
@@ -121,10 +115,10 @@ fn with_answers<'a>(
             let Some((name, used)) = asked(after(line, at)) else {
                 return Ok(None);
             };
-            answered.push(answer(alloc, tokens, macros, token, name))?;
+            answered.push(answer(tokens, macros, token, name))?;
             at += used;
         } else {
-            answered.push(item(alloc, &token.kind, token))?;
+            answered.push(item(&token.kind, token))?;
         }
     }
     Ok(Some(answered))

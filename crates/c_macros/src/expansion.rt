@@ -3,11 +3,11 @@
 ghost use Rattle.std.specs.Prelude.{◌≡◌, ◌++◌, ◌≤◌, length, List, IfOk, OnOk, map, reverse};
 ghost use Rattle.std.specs.List.{All};
 ghost use Rattle.c_expansion.specs.Answers.{Answers};
-ghost use Rattle.c_expansion.specs.Macros.{Macros, items, token, no_macros};
+ghost use Rattle.c_expansion.specs.Macros.{Macros, items, no_macros};
 ghost use Rattle.c_expansion.specs.Expansion.{Expanded, IsExpanded};
 ghost use Rattle.c_tokens.specs.Pieces.{IsLexedKind};
 ghost use Rattle.c_expansion.specs.Moves as moves;
-ghost use Rattle.c_replacement.specs.Views.{table, view, views};
+ghost use Rattle.c_replacement.specs.Views.{table, views};
 ghost use Rattle.c_macros.specs.States.{state, EndsAs, PartIs};
 ghost use Rattle.c_macros.specs.declared.lines.Part.TheVariants as part;
 ghost use Rattle.c_macros.specs.Comes.{TakesAs, DoesAs};
@@ -19,59 +19,18 @@ use crate::headers::fortify_source;
 use crate::lines::{Part, after, first, part_of};
 use crate::states::{State, set_macro, takes};
 use c_expansion::Group;
-use c_replacement::{Item, Macros, replace};
-use c_tokens::{Token, TokenKind};
-use fc_base::{Fault, Level, NoMemory, Rule, Text};
+use c_replacement::{Item, Macros, append_replaced};
+use c_tokens::Token;
+use fc_base::{Fault, Level, Rule};
 use indexmap::IndexMap;
 use std::alloc::{AllocError, Global};
-
-/// The same token in memory of its own.
-fn copied(alloc: Global, kind: &TokenKind) -> Result<TokenKind, NoMemory>
-    ensures { IfOk result (λ k. k ≡ kind.now) }
-{
-    Ok(match kind {
-        TokenKind::Name(name) => TokenKind::Name(Text::from_bytes(alloc, name.bytes())?),
-        TokenKind::Number { value, kind } => TokenKind::Number {
-            value: *value,
-            kind: *kind,
-        },
-        TokenKind::CharConst(byte) => TokenKind::CharConst(*byte),
-        TokenKind::Str(text) => TokenKind::Str(Text::from_bytes(alloc, text.bytes())?),
-        TokenKind::Punct(punct) => TokenKind::Punct(*punct),
-        TokenKind::HeaderName(name) => TokenKind::HeaderName(Text::from_bytes(
-            alloc,
-            name.bytes(),
-        )?),
-        TokenKind::Header(header) => TokenKind::Header(*header),
-    })
-}
-
-fn token(alloc: Global, item: &Item<'_>) -> Result<Token, NoMemory>
-    ensures { IfOk result (λ t. t ≡ token (view item.now)) }
-{
-    Ok(Token {
-        kind: copied(alloc, item.kind)?,
-        place: item.place,
-        starts_line: item.starts_line,
-        spaced: item.spaced,
-    })
-}
-
-fn push_tokens(alloc: Global, done: &mut Vec<Token>, list: &[Item<'_>]) -> Result<(), NoMemory>
-    ensures { OnOk result (done.new.items ≡ done.old.items ++ map token (views list.now)) }
-{
-    for item in list {
-        done.push(token(alloc, item)?)?;
-    }
-    Ok(())
-}
 
 fn items<'a>(alloc: Global, text: &'a [Token]) -> Result<Vec<Item<'a>>, AllocError>
     ensures { IfOk result (λ v. views v.items ≡ items text.now) }
 {
-    let mut list = Vec::new(alloc);
+    let mut list = Vec::with_capacity(alloc, text.len())?;
     for token in text {
-        list.push(item(alloc, &token.kind, token))?;
+        list.push(item(&token.kind, token))?;
     }
     Ok(list)
 }
@@ -87,9 +46,7 @@ fn take_text<'a>(
     ensures { TakesAs result (table macros.now) count text.now done.old.items done.new.items }
 {
     let list = items(alloc, text)?;
-    let (new, count) = replace(alloc, macros, list, count)?;
-    push_tokens(alloc, done, &new)?;
-    Ok(count)
+    append_replaced(alloc, macros, list, count, done)
 }
 
 fn start<'a>(alloc: Global, tokens: &'a Builtins, level: Level) -> Result<State<'a>, AllocError>

@@ -1,10 +1,11 @@
 -- Arguments in their Vec.
-use Rattle.std.proofs.Common.{◌≡◌, ℕ, zero, suc, ◌+◌, ◌≤◌, ◌<◌, List, [], ◌∷◌, ◌++◌, reverse, length, get_or, drop, Option, Some, option_map, Ok, refl, sym, ap, ◌∙◌, add-one, drop-cons}
+use Rattle.std.proofs.Common.{◌≡◌, ℕ, zero, suc, ◌+◌, ◌≤◌, ◌<◌, List, [], ◌∷◌, ◌++◌, reverse, length, get_or, map, take, drop, ◌-◌, Option, Some, option_map, Ok, refl, sym, ap, ◌∙◌, add-one, drop-cons, arith, length-append, append_assoc}
 use Rattle.std.specs.List.{slice_get}
 use Rattle.std.specs.Prelude.{slice_set, Vec}
 use Rattle.std.specs.Global.{Global}
 use Rattle.std.proofs.lemmas.Option.{slice_get-map, slice_get-get_or, slice_get_past}
-use Rattle.std.proofs.lemmas.List.{map-set, set-get_or, map-append, reverse-append, reverse-reverse}
+use Rattle.std.proofs.lemmas.List.{length-map, take-map, drop-map, map_push, map_more, map-set, set-get_or, map-append, reverse-append, reverse-reverse}
+use Rattle.std.proofs.Math.Seq.{take-append_seam, drop-append_seam}
 use Rattle.fc_base.specs.declared.Fault.{Fault}
 use Rattle.fc_base.specs.declared.Fault.TheVariants.{Refused, NoMemory}
 use Rattle.c_replacement.specs.declared.items.Item.{Item as Held}
@@ -12,8 +13,9 @@ use Rattle.c_replacement.specs.declared.items.Piece.{Piece as Part}
 use Rattle.c_replacement.specs.declared.items.Argument.{Argument as Operand}
 use Rattle.c_replacement.specs.declared.items.Argument.TheVariants.{Written, Expanded}
 use Rattle.c_expansion.specs.Answers.{Fails}
-use Rattle.c_expansion.specs.Macros.{Item, Macros, written, expanded}
-use Rattle.c_expansion.specs.Replacement.{argument_text, Expands, Readies, absent, again, fails, first}
+use Rattle.c_expansion.specs.Macros.{HideSet, Item, Macros, written, expanded}
+use Rattle.c_expansion.specs.Turns.{union}
+use Rattle.c_expansion.specs.Replacement.{hidden, argument_text, Expands, Readies, absent, again, fails, first}
 use Rattle.c_replacement.specs.Views.{view, views, left, argument_view, argument_views}
 use Rattle.c_replacement.specs.Turning.{text_of}
 
@@ -60,11 +62,35 @@ is_refused (Refused q) ms depth count args k a ts pending lt e r p m =
     let m' = rw (p, turned) at m in
     fails at m'
 
-pub text_at : (args : List Operand) (k : ℕ) (a : Operand) → k < length args → a ≡ get_or args k a → argument_text (slice_get (argument_views args) k) ≡ text_of (argument_view a)
-text_at args k a lt e = rw (found args k a lt e) refl
+pub text_at : (args : List Operand) (k : ℕ) (a : Operand) → k < length args → argument_text (slice_get (argument_views args) k) ≡ text_of (argument_view (get_or args k a))
+text_at args k a lt = rw (slice_get-map argument_view args k, slice_get-get_or args k a lt) refl
 
 pub dropped : (body : List Part) (i : ℕ) (d p : Part) → i < length body → get_or body i d ≡ p → drop i body ≡ p ∷ drop (i + 1) body
 dropped body i d p lt e = rw add-one (drop-cons body i d lt ∙ ap (λ (x : Part). x ∷ drop (suc i) body) e)
 
 pub text_absent : (args : List Operand) (k : ℕ) → length args ≤ k → argument_text (slice_get (argument_views args) k) ≡ []
 text_absent args k le = rw (slice_get-map argument_view args k, slice_get_past args k le) refl
+
+-- ---- tokens that were put behind what is left, and then turned
+
+module _ (pending list : List Held) (added : List Item) (start : ℕ) (from : start ≡ length pending) (is : views list ≡ views pending ++ added) where
+  pub put_count : (n : ℕ) → n ≡ length list → n - start ≡ length added
+  put_count n e = omega (arith, ap (λ (ts : List Item). length ts) is, length-append (views pending) added, length-map pending view, length-map list view)
+
+  seam : start ≡ length (views pending)
+  seam = from ∙ sym (length-map pending view)
+
+  pub put_back : (new : List Held) → new ≡ take start list ++ reverse (drop start list) → left new ≡ added ++ left pending
+  put_back new e =
+      let low : views (take start list) ≡ views pending = rw (← take-map view, is, seam, take-append_seam) refl in
+      let high : views (drop start list) ≡ added = rw (← drop-map view, is, seam, drop-append_seam) refl in
+      rw (e, map-append, map_reverse, low, high, reverse-append, reverse-reverse) refl
+
+-- ---- the tokens of an argument, one after the other
+
+module _ (before new tokens : List Held) (i : ℕ) (x y : Held) (hide both : HideSet) (lt : i < length tokens) (item : x ≡ get_or tokens i x) where
+  pub hidden_more : view y ≡ record (view x) { hide = both } → both ≡ union (view x).hide hide → views new ≡ views before ++ map (hidden hide) (views (take i tokens))
+      → views (new ++ y ∷ []) ≡ views before ++ map (hidden hide) (views (take (i + 1) tokens))
+  hidden_more e b so_far =
+      let one : view y ≡ hidden hide (view x) = e ∙ ap (λ (set : HideSet). record (view x) { hide = set }) b in
+      rw (map_push, so_far, one, map_more view tokens i x lt, ← item, map-append, append_assoc) refl

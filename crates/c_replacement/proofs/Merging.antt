@@ -16,7 +16,7 @@ use Rattle.std_collections.proofs.SetLists.{filter_takes, filter_skips}
 use Rattle.std_collections.proofs.SortedSets.{merge_is_union, sorted_merged, sorted_rest, lacks_Less, has-Equal, skip_Greater, skip_Equal, none_in_empty}
 use Rattle.c_tokens.specs.declared.TokenKind.{TokenKind}
 use Rattle.c_tokens.specs.declared.TokenKind.TheVariants.{Name as Named}
-use Rattle.c_expansion.specs.Macros.{Name, same_name}
+use Rattle.c_expansion.specs.Macros.{Name, same_name, HideSet}
 use Rattle.c_expansion.specs.Turns.{union, intersection, with_name}
 use Rattle.c_replacement.specs.HideSets.{names, by_bytes, held}
 
@@ -55,21 +55,21 @@ held_shared xs ys =
     let laws = eq_by_cmp_equiv nat_list_cmp_total in
     rw by_order (λ i name. is_member-filter laws (in_names ys) name (λ x e. list_any_congr laws name x ys e) xs i)
 
--- ---- the calls, whose lists are `a` and `b` and stand in their sets as `x` and `y`
+-- ---- the calls
 
-module _ (a b x y new : List (Bor (List ℕ))) (p : a ≡ x) (q : b ≡ y) where
-  pub merged_ascends : names new ≡ merge (names a) (names b) → IsStrictlySortedBy by_bytes (names x) → IsStrictlySortedBy by_bytes (names y) → IsStrictlySortedBy by_bytes (names new)
-  merged_ascends e s t = rw (e, p, q) (sorted_merged nat_list_cmp_total true (names x) (names y) s t)
+module _ (a b new : List (Bor (List ℕ))) where
+  pub merged_ascends : names new ≡ merge (names a) (names b) → IsStrictlySortedBy by_bytes (names a) → IsStrictlySortedBy by_bytes (names b) → IsStrictlySortedBy by_bytes (names new)
+  merged_ascends e s t = rw e (sorted_merged nat_list_cmp_total true (names a) (names b) s t)
 
-  pub shared_ascends : names new ≡ filter (in_names (names b)) (names a) → IsStrictlySortedBy by_bytes (names x) → IsStrictlySortedBy by_bytes (names new)
-  shared_ascends e s = rw (e, p, q) (IsStrictlySortedBy-filter by_bytes (in_names (names y)) (names x) s)
+  pub shared_ascends : names new ≡ filter (in_names (names b)) (names a) → IsStrictlySortedBy by_bytes (names a) → IsStrictlySortedBy by_bytes (names new)
+  shared_ascends e s = rw e (IsStrictlySortedBy-filter by_bytes (in_names (names b)) (names a) s)
 
-  module _ (v w : List Name) (see_v : names x ≡ v) (see_w : names y ≡ w) where
+  module _ (v w : List Name) (see_v : names a ≡ v) (see_w : names b ≡ w) where
     pub merged_is : names new ≡ merge (names a) (names b) → held (names new) ≡ union (held v) (held w)
-    merged_is e = rw (e, p, q, see_v, see_w) (held_merged v w)
+    merged_is e = rw (e, see_v, see_w) (held_merged v w)
 
     pub shared_is : names new ≡ filter (in_names (names b)) (names a) → held (names new) ≡ intersection (held v) (held w)
-    shared_is e = rw (e, p, q, see_v, see_w) (held_shared v w)
+    shared_is e = rw (e, see_v, see_w) (held_shared v w)
 
 pub one_ascends : (n : Name) → IsStrictlySortedBy by_bytes (n ∷ [])
 unfolding IsStrictlySortedBy
@@ -83,8 +83,33 @@ or_false : (b : Bool) → (b || false) ≡ b
 or_false true = refl
 or_false false = refl
 
+in_twice : (n other : Name) (set : List Name) (same is : Bool) → (same ≡ true → is ≡ true) → is ≡ ((same || false) || is)
+in_twice n other set true is f = f refl
+in_twice n other set false is f = refl
+
+-- a name more is none more where the set has it
+pub has_it : (n : Name) (set : List Name) → true ≡ held set n → held set ≡ union (held (n ∷ [])) (held set)
+has_it n set e = λ i other. in_twice n other set (same_name other n) (held set other) (λ same. list_any_congr nat_list_eq_equiv other n set same ∙ sym e) i
+
 pub named_is : (kind : TokenKind) (n : Name) (set : List Name) → kind ≡ Named n → union (held (n ∷ [])) (held set) ≡ with_name kind (held set)
 named_is kind n set e = rw e (λ i other. (or_false (same_name other n) ∙ nat_list_eq_equiv.symm other n) i || held set other)
+
+within : (a b : Bool) → (a || (b || a)) ≡ (b || a)
+within true true = refl
+within true false = refl
+within false b = refl
+
+twice : (a : Bool) → (a || a) ≡ a
+twice true = refl
+twice false = refl
+
+with_more : (old : HideSet) (kind : TokenKind) → union old (with_name kind old) ≡ with_name kind old
+with_more old (Named n) = λ i other. within (old other) (same_name n other) i
+with_more old _ = λ i other. twice (old other) i
+
+-- a set is within the one that has a name more
+pub grown : (kind : TokenKind) (old new : List Name) → held new ≡ with_name kind (held old) → union (held old) (held new) ≡ held new
+grown kind old new e = rw e (with_more (held old) kind)
 
 -- ---- a merge, where `front` was written and xs and ys are left
 

@@ -1,14 +1,20 @@
 -- Lists of names as hide sets.
-use Rattle.std.specs.Prelude.{ℕ, List, map}
+use Rattle.std.specs.Prelude.{ℕ, List, [], map, Option, Some, None}
 use Rattle.std.specs.Borrow.{Bor}
 use Rattle.std.specs.Cmp.Lexicographic.{slice_cmp}
 use Rattle.std.specs.List.{list_any}
 use Rattle.std.specs.Ordering.{nat_cmp}
 use Rattle.std.specs.declared.cmp.Ordering.{Ordering}
+use Rattle.smallvec.specs.SmallVec.{SmallVec}
 use Rattle.c_expansion.specs.Macros.{Name, same_name, HideSet}
 
 abbrev pub names : List (Bor (List ℕ)) → List Name
 names = map (λ r. r.now)
+
+-- the names of a set, which are none where it has no list of them
+abbrev pub members : Option (SmallVec (Bor (List ℕ))) → List Name
+members None = []
+members (Some list) = names list.items
 
 -- the order of names by their bytes
 abbrev pub by_bytes : Name → Name → Ordering

@@ -6,8 +6,9 @@ ghost use Rattle.c_replacement.specs.Views.{left, argument_view, argument_views}
 ghost use Rattle.c_replacement.specs.Turning.{action_view, GathersAs, IsNear};
 
 use crate::hide::HideSet;
-use crate::items::{Argument, Item};
+use crate::items::{Argument, Arguments, Item};
 use c_tokens::{Punct, TokenKind};
+use smallvec::SmallVec;
 use std::alloc::{AllocError, Global};
 
 /// What a token does within a call.
@@ -24,7 +25,7 @@ pub enum Step {
 /// The arguments of a call, and the hide set of its closing bracket.
 #[derive(Drop)]
 pub struct Call<'a> {
-    pub args: Vec<Argument<'a>>,
+    pub args: Arguments<'a>,
     pub close: HideSet<'a>,
 }
 
@@ -61,7 +62,7 @@ pub fn gather<'a>(
     ensures found { IfOk result (λ o. GathersAs o (left pending.new.items) (call 0 (left pending.old.items))) }
     ensures shorter { vec_len pending.new ≤ vec_len pending.old }
 {
-    let mut args = Vec::new(alloc);
+    let mut args = SmallVec::new(alloc);
     let mut current = Vec::new(alloc);
     let mut nest = 0;
     while let Some(item) = pending.pop() {

@@ -1,9 +1,16 @@
 //! Tokens under expansion, and macros.
 
+ghost use Rattle.std.specs.Prelude.{◌≡◌, IfOk};
+ghost use Rattle.c_expansion.specs.Macros.{token};
+ghost use Rattle.c_replacement.specs.Views.{view};
+
 use crate::hide::HideSet;
-use c_tokens::TokenKind;
-use fc_base::Place;
+use c_tokens::{Token, TokenKind};
+use fc_base::{NoMemory, Place, Text};
 use indexmap::{IndexMap, IndexSet};
+use smallvec::SmallVec;
+use std::alloc::Global;
+use std::default::MadeWith;
 
 /// So many arguments are expanded one inside another at most.
 pub const NESTING_LIMIT: u32 = 200;
@@ -16,6 +23,40 @@ pub struct Item<'a> {
     pub starts_line: bool,
     pub spaced: bool,
     pub hide: HideSet<'a>,
+}
+
+impl Item<'_> {
+    /// The token alone, in memory of its own.
+    pub fn token(&self, alloc: Global) -> Result<Token, NoMemory>
+        ensures { IfOk result (λ t. t ≡ token (view self.now)) }
+    {
+        Ok(Token {
+            kind: copied(alloc, self.kind)?,
+            place: self.place,
+            starts_line: self.starts_line,
+            spaced: self.spaced,
+        })
+    }
+}
+
+fn copied(alloc: Global, kind: &TokenKind) -> Result<TokenKind, NoMemory>
+    ensures { IfOk result (λ k. k ≡ kind.now) }
+{
+    Ok(match kind {
+        TokenKind::Name(name) => TokenKind::Name(Text::from_bytes(alloc, name.bytes())?),
+        TokenKind::Number { value, kind } => TokenKind::Number {
+            value: *value,
+            kind: *kind,
+        },
+        TokenKind::CharConst(byte) => TokenKind::CharConst(*byte),
+        TokenKind::Str(text) => TokenKind::Str(Text::from_bytes(alloc, text.bytes())?),
+        TokenKind::Punct(punct) => TokenKind::Punct(*punct),
+        TokenKind::HeaderName(name) => TokenKind::HeaderName(Text::from_bytes(
+            alloc,
+            name.bytes(),
+        )?),
+        TokenKind::Header(header) => TokenKind::Header(*header),
+    })
 }
 
 /// A part of a replacement list: a token, with whether it is spaced, or a parameter by its number from 0.
@@ -40,4 +81,13 @@ pub type Macros<'a> = IndexMap<&'a [u8], Macro<'a>>;
 pub enum Argument<'a> {
     Written(Vec<Item<'a>>),
     Expanded(Vec<Item<'a>>),
+}
+
+/// The arguments of a call. Most calls have few of them.
+pub type Arguments<'a> = SmallVec<Argument<'a>, 2>;
+
+impl<'a> MadeWith<Global> for Argument<'a> {
+    fn made_with(alloc: Global) -> Argument<'a> {
+        Argument::Expanded(Vec::new(alloc))
+    }
 }

@@ -9,4 +9,4 @@ mod turns;
 
 pub use hide::HideSet;
 pub use items::{Item, Macro, Macros, NESTING_LIMIT, Piece};
-pub use replacement::replace;
+pub use replacement::{append_replaced, replace};

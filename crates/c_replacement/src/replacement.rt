@@ -1,25 +1,23 @@
 //! Macro replacement, argument by argument and token by token.
 
-ghost use Rattle.std.specs.Prelude.{◌≡◌, ℕ, ◌+◌, ◌≤◌, ◌<◌, ◌++◌, IfOk, OnOk, MatchBool, vec_len, map, List};
+ghost use Rattle.std.specs.Prelude.{◌≡◌, ℕ, ◌+◌, ◌-◌, ◌*◌, ◌≤◌, ◌<◌, ◌++◌, IfOk, OnOk, MatchBool, vec_len, map, reverse, take, drop, length, List};
 ghost use Rattle.fc_base.specs.declared.Fault.TheVariants.{Refused};
 ghost use Rattle.c_tokens.specs.Tokens.{token_limit};
 ghost use Rattle.c_expansion.specs.Answers.{Answers};
 ghost use Rattle.c_expansion.specs.Replacement.{Outcome, replacing, hidden, argument_text, Expands, Substitutes, Readies};
-ghost use Rattle.c_expansion.specs.Turns.{turn};
 ghost use Rattle.c_replacement.specs.HideSets.{held};
 ghost use Rattle.c_replacement.specs.Views.{view, views, left, table, argument_view, argument_views, piece_views};
-ghost use Rattle.c_replacement.specs.Turning.{text_of};
+ghost use Rattle.c_replacement.specs.Turning.{text_of, AddsAs, StaysAs, GivesAs};
 
-use crate::hide::HideSet;
+use crate::hide::{HideSet, Hides};
 use crate::items::{Argument, Item, Macros, NESTING_LIMIT, Piece};
-use crate::turns::{Turn, turn_of};
-use c_tokens::{TOKEN_LIMIT, TokenKind};
+use crate::turns::{Turn, meaning_of, turn_of};
+use c_tokens::{TOKEN_LIMIT, Token, TokenKind};
 use fc_base::{Fault, Place, Refusal, Rule};
 use std::alloc::{AllocError, Global};
 use std::mem;
 
 fn replacing<'a>(
-    alloc: Global,
     place: Place,
     hide: &HideSet<'a>,
     kind: &'a TokenKind,
@@ -32,19 +30,20 @@ fn replacing<'a>(
         place,
         starts_line: false,
         spaced,
-        hide: hide.copied(alloc)?,
+        hide: hide.copied()?,
     })
 }
 
-fn hidden<'a>(alloc: Global, hide: &HideSet<'a>, item: &Item<'a>) -> Result<Item<'a>, AllocError>
-    ensures { IfOk result (λ x. view x ≡ hidden (held hide.now) (view item.now)) }
+/// The item with another hide set.
+fn with_hide<'a>(item: &Item<'a>, hide: &HideSet<'a>) -> Result<Item<'a>, AllocError>
+    ensures { IfOk result (λ x. view x ≡ record (view item.now) { hide = held hide.now }) }
 {
     Ok(Item {
         kind: item.kind,
         place: item.place,
         starts_line: item.starts_line,
         spaced: item.spaced,
-        hide: item.hide.union(alloc, hide)?,
+        hide: hide.copied()?,
     })
 }
 
@@ -57,27 +56,23 @@ fn text<'m, 'a>(argument: &'m Argument<'a>) -> &'m [Item<'a>]
     }
 }
 
+/// Puts the tokens of an argument behind the others. Most of them have the hide set of the call, or that of the last one.
 fn push_hidden<'a>(
     alloc: Global,
     new: &mut Vec<Item<'a>>,
-    hide: &HideSet<'a>,
+    hides: &Hides<'a>,
     tokens: &[Item<'a>],
 ) -> Result<(), AllocError>
-    ensures { OnOk result (views new.new.items ≡ views new.old.items ++ map (hidden (held hide.now)) (views tokens.now)) }
+    ensures { OnOk result (views new.new.items ≡ views new.old.items ++ map (hidden (held hides.now.new)) (views tokens.now)) }
 {
+    let mut own = hides.old.copied()?;
+    let mut both = hides.new.copied()?;
     for item in tokens {
-        new.push(hidden(alloc, hide, item)?)?;
-    }
-    Ok(())
-}
-
-/// Puts the tokens in front of what is left.
-fn put_back<'a>(pending: &mut Vec<Item<'a>>, mut new: Vec<Item<'a>>) -> Result<(), AllocError>
-    ensures tokens { OnOk result (left pending.new.items ≡ views new.entry.items ++ left pending.old.items) }
-    ensures len { OnOk result (vec_len pending.new ≡ vec_len pending.old + vec_len new.entry) }
-{
-    while let Some(item) = new.pop() {
-        pending.push(item)?;
+        if !item.hide.is_same(&own) {
+            own = item.hide.copied()?;
+            both = own.union(alloc, &hides.new)?;
+        }
+        new.push(with_hide(item, &both)?)?;
     }
     Ok(())
 }
@@ -87,15 +82,15 @@ fn put_back<'a>(pending: &mut Vec<Item<'a>>, mut new: Vec<Item<'a>>) -> Result<(
 fn make_ready<'a>(
     alloc: Global,
     macros: &Macros<'a>,
-    args: &mut Vec<Argument<'a>>,
+    args: &mut [Argument<'a>],
     k: usize,
     depth: u32,
     count: u64,
 ) -> Result<u64, Fault>
     requires deep { depth < NESTING_LIMIT }
-    requires index { k < vec_len args.old }
-    ensures outcome { Answers (λ c. (argument_views args.new.items, c)) result (Readies (table macros.now) depth count (argument_views args.old.items) k) }
-    ensures len { IfOk result (λ c. vec_len args.new ≡ vec_len args.old) }
+    requires index { k < length args.old }
+    ensures outcome { Answers (λ c. (argument_views args.new, c)) result (Readies (table macros.now) depth count (argument_views args.old) k) }
+    ensures len { IfOk result (λ c. length args.new ≡ length args.old) }
     ensures counts { IfOk result (λ c. count ≤ c) }
 {
     match mem::replace(&mut args[k], Argument::Expanded(Vec::new(alloc))) {
@@ -112,37 +107,94 @@ fn make_ready<'a>(
     }
 }
 
-/// The replacement list with the arguments in the places of the parameters.
+/// Puts the replacement list, with the arguments in the places of the parameters, behind the other tokens.
 #[cycle(replacement)]
 fn substitute<'a>(
     alloc: Global,
     macros: &Macros<'a>,
     place: Place,
-    hide: &HideSet<'a>,
-    mut args: Vec<Argument<'a>>,
+    hides: &Hides<'a>,
+    args: &mut [Argument<'a>],
     body: &[Piece<'a>],
     depth: u32,
     from: u64,
-) -> Result<(Vec<Item<'a>>, u64), Fault>
-    requires deep { 0 < vec_len args → depth < NESTING_LIMIT }
-    ensures outcome { Answers (λ r. (views r.0.items, r.1)) result
-        (Substitutes (table macros.now) depth from place (held hide.now) (argument_views args.entry.items) (piece_views body.now)) }
-    ensures counts { IfOk result (λ r. from ≤ r.1) }
+    new: &mut Vec<Item<'a>>,
+) -> Result<u64, Fault>
+    requires deep { 0 < length args.old → depth < NESTING_LIMIT }
+    ensures outcome { GivesAs result new.old.items new.new.items
+        (Substitutes (table macros.now) depth from place (held hides.now.new) (argument_views args.old) (piece_views body.now)) }
+    ensures counts { IfOk result (λ c. from ≤ c) }
 {
     let mut count = from;
-    let mut new = Vec::new(alloc);
     for piece in body {
         match *piece {
-            Piece::Plain(kind, spaced) => new.push(replacing(alloc, place, hide, kind, spaced)?)?,
+            Piece::Plain(kind, spaced) => new.push(replacing(place, &hides.new, kind, spaced)?)?,
             Piece::Parameter(k) => {
                 if k < args.len() {
-                    count = make_ready(alloc, macros, &mut args, k, depth, count)?;
-                    push_hidden(alloc, &mut new, hide, text(&args[k]))?;
+                    count = make_ready(alloc, macros, args, k, depth, count)?;
+                    push_hidden(alloc, new, hides, text(&args[k]))?;
                 }
             }
         }
     }
-    Ok((new, count))
+    Ok(count)
+}
+
+/// Turns the list from there on.
+fn turn_from(list: &mut Vec<Item<'_>>, start: usize)
+    requires { start ≤ vec_len list.old }
+    ensures { list.new.items ≡ take start list.old.items ++ reverse (drop start list.old.items) }
+{
+    list[start..].reverse();
+}
+
+/// Whether the token stays. Where it does not, what it becomes is put in front of what is left.
+#[cycle(replacement)]
+fn stays<'a>(
+    alloc: Global,
+    macros: &Macros<'a>,
+    depth: u32,
+    item: &Item<'a>,
+    pending: &mut Vec<Item<'a>>,
+    count: &mut u64,
+) -> Result<bool, Fault>
+    requires deep { depth ≤ NESTING_LIMIT }
+    ensures outcome { StaysAs (table macros.now) depth (view item.now) count.old (left pending.old.items) result count.new (left pending.new.items) }
+    ensures counts { OnOk result (count.old ≤ count.new) }
+    ensures shorter { OnOk result (2 * (token_limit - count.new) + vec_len pending.new ≤ 2 * (token_limit - count.old) + vec_len pending.old) }
+{
+    let Some(meaning) = meaning_of(macros, item) else {
+        return Ok(true);
+    };
+    match turn_of(alloc, meaning, depth, item, pending)? {
+        Turn::Stays => Ok(true),
+        Turn::BadCall => refuse(Rule::MacroArguments, item.place),
+        Turn::Becomes {
+            body,
+            hides,
+            mut args,
+        } => {
+            let start = pending.len();
+            let now = substitute(
+                alloc,
+                macros,
+                item.place,
+                &hides,
+                args.as_mut_slice(),
+                body,
+                depth,
+                *count,
+                pending,
+            )?;
+            let len = (pending.len() - start) as u64;
+            if passes_limit(now, len) {
+                return refuse(Rule::LimitTokens, item.place);
+            }
+            *count = now + len;
+            turn_from(pending, start);
+            Ok(false)
+        }
+    }
 }
 
 /// Expands the list whose next token is the last of `pending`.
@@ -161,20 +213,8 @@ fn run<'a>(
     let mut count = from;
     let mut done = Vec::new(alloc);
     while let Some(item) = pending.pop() {
-        match turn_of(alloc, macros, depth, &item, &mut pending)? {
-            Turn::Stays => done.push(item)?,
-            Turn::BadCall => return refuse(Rule::MacroArguments, item.place),
-            Turn::Becomes { body, hide, args } => {
-                let (new, now) = substitute(
-                    alloc, macros, item.place, &hide, args, body, depth, count,
-                )?;
-                let len = new.len() as u64;
-                if passes_limit(now, len) {
-                    return refuse(Rule::LimitTokens, item.place);
-                }
-                count = now + len;
-                put_back(&mut pending, new)?;
-            }
+        if stays(alloc, macros, depth, &item, &mut pending, &mut count)? {
+            done.push(item)?;
         }
     }
     Ok((done, count))
@@ -209,4 +249,25 @@ pub fn replace<'a>(
 {
     tokens.reverse();
     run(alloc, macros, tokens, 0, count)
+}
+
+/// Puts the tokens of the list, with its macros replaced, behind those that are done, and gives the count of tokens after
+/// it.
+pub fn append_replaced<'a>(
+    alloc: Global,
+    macros: &Macros<'a>,
+    mut tokens: Vec<Item<'a>>,
+    from: u64,
+    done: &mut Vec<Token>,
+) -> Result<u64, Fault>
+    ensures { AddsAs result (table macros.now) from (views tokens.entry.items) done.old.items done.new.items }
+{
+    let mut count = from;
+    tokens.reverse();
+    while let Some(item) = tokens.pop() {
+        if stays(alloc, macros, 0, &item, &mut tokens, &mut count)? {
+            done.push(item.token(alloc)?)?;
+        }
+    }
+    Ok(count)
 }

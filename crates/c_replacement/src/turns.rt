@@ -1,14 +1,15 @@
 //! What a token does: it stays, or it and the arguments after it are replaced.
 
-ghost use Rattle.std.specs.Prelude.{◌≡◌, ℕ, ◌≤◌, ◌<◌, ◌+◌, IfOk, option_map, vec_len, drop, true};
-ghost use Rattle.c_expansion.specs.Turns.{meaning_of, opens_next, called_with, call, turn};
+ghost use Rattle.std.specs.Prelude.{◌≡◌, ℕ, ◌≤◌, ◌<◌, ◌+◌, IfOk, option_map, vec_len, drop, true, Some};
+ghost use Rattle.c_expansion.specs.Turns.{meaning_of, opens_next, called_with, call, by_meaning};
 ghost use Rattle.c_replacement.specs.Views.{left, view, meaning_view, piece_views, table, macro_at};
 ghost use Rattle.c_replacement.specs.Turning.{TurnsAs, IsWithin};
 
 use crate::calls::{gather, right_number};
-use crate::hide::HideSet;
-use crate::items::{Argument, Item, Macro, Macros, NESTING_LIMIT, Piece};
+use crate::hide::Hides;
+use crate::items::{Arguments, Item, Macro, Macros, NESTING_LIMIT, Piece};
 use c_tokens::{Punct, TokenKind};
+use smallvec::SmallVec;
 use std::alloc::{AllocError, Global};
 
 pub enum Turn<'m, 'a> {
@@ -16,8 +17,8 @@ pub enum Turn<'m, 'a> {
     BadCall,
     Becomes {
         body: &'m [Piece<'a>],
-        hide: HideSet<'a>,
-        args: Vec<Argument<'a>>,
+        hides: Hides<'a>,
+        args: Arguments<'a>,
     },
 }
 
@@ -27,17 +28,15 @@ fn find<'m, 'a>(macros: &'m Macros<'a>, name: &[u8]) -> Option<&'m Macro<'a>>
     macros.get(name)
 }
 
-fn meaning_of<'m, 'a>(macros: &'m Macros<'a>, item: &Item<'a>) -> Option<&'m Macro<'a>>
+/// The macro that a token names, none where the name is in its hide set.
+pub fn meaning_of<'m, 'a>(macros: &'m Macros<'a>, item: &Item<'a>) -> Option<&'m Macro<'a>>
     ensures { option_map (λ m. meaning_view m.now) result ≡ meaning_of (table macros.now) (view item.now) }
 {
     match item.kind {
-        TokenKind::Name(name) => {
-            if item.hide.has(name.bytes()) {
-                None
-            } else {
-                find(macros, name.bytes())
-            }
-        }
+        TokenKind::Name(name) => match find(macros, name.bytes()) {
+            Some(meaning) if !item.hide.has(name.bytes()) => Some(meaning),
+            _ => None,
+        },
         _ => None,
     }
 }
@@ -78,43 +77,40 @@ fn called<'m, 'a>(
             let hide = item.hide.intersection(alloc, &call.close)?;
             Ok(Turn::Becomes {
                 body,
-                hide: hide.with_name(alloc, item.kind)?,
+                hides: Hides::of(alloc, hide, item.kind)?,
                 args: call.args,
             })
         }
     }
 }
 
-/// What the token does, with what is left after it.
+/// What a token does that names this macro, with what is left after it.
 pub fn turn_of<'m, 'a>(
     alloc: Global,
-    macros: &'m Macros<'a>,
+    meaning: &'m Macro<'a>,
     depth: u32,
     item: &Item<'a>,
     pending: &mut Vec<Item<'a>>,
 ) -> Result<Turn<'m, 'a>, AllocError>
     ensures found { IfOk result (λ t. TurnsAs t (left pending.old.items) (left pending.new.items)
-        (turn (table macros.now) depth (view item.now) (left pending.old.items))) }
+        (by_meaning depth (view item.now) (left pending.old.items) (Some (meaning_view meaning.now)))) }
     ensures shorter { vec_len pending.new ≤ vec_len pending.old }
     ensures within { IfOk result (λ t. IsWithin depth NESTING_LIMIT t) }
 {
-    match meaning_of(macros, item) {
-        None => Ok(Turn::Stays),
-        Some(meaning) => match &meaning.parameters {
-            None => Ok(Turn::Becomes {
-                body: &meaning.body,
-                hide: item.hide.with_name(alloc, item.kind)?,
-                args: Vec::new(alloc),
-            }),
-            Some(parameters) => {
-                if !opens_next(pending) {
-                    return Ok(Turn::Stays);
-                }
-                if depth >= NESTING_LIMIT {
-                    return Ok(Turn::BadCall);
-                }
-                called(alloc, item, parameters.len(), &meaning.body, pending)
+    match &meaning.parameters {
+        None => Ok(Turn::Becomes {
+            body: &meaning.body,
+            hides: Hides::of(alloc, item.hide.copied()?, item.kind)?,
+            args: SmallVec::new(alloc),
+        }),
+        Some(parameters) => {
+            if !opens_next(pending) {
+                return Ok(Turn::Stays);
             }
-        },
+            if depth >= NESTING_LIMIT {
+                return Ok(Turn::BadCall);
+            }
+            called(alloc, item, parameters.len(), &meaning.body, pending)
+        }
     }
 }

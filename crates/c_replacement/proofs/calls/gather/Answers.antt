@@ -13,17 +13,17 @@ loop-item-init c = record {
 
 pub returns-in-Ends-clause-found : goal.returns-in-Ends-clause-found
 returns-in-Ends-clause-found c =
-    rw (c.in_ok-push-in-Ends.ensures.items, map_push) (ends_here _ _ c.loop-item.nest (view c.in-Some.item) _ _ _ (left_pop _ _ _ c.in-Some.ensures.items) c.in-Ends.ensures.is c.loop-item.invariant.same)
+    rw (c.in_ok-push-in-Ends.ensures.ok, map_push) (ends_here _ _ c.loop-item.nest (view c.in-Some.item) _ _ _ (left_pop _ _ _ c.in-Some.ensures.items) c.in-Ends.ensures.is c.loop-item.invariant.same)
 
 pub loop-item-preserved-in_ok-push-in-Parts : goal.loop-item-preserved-in_ok-push-in-Parts
 loop-item-preserved-in_ok-push-in-Parts c = record {
-  same = rw (c.in_ok-push-in-Parts.ensures.items, c.new-current-in-Parts.ensures.items, map_push) (parts_here _ _ c.loop-item.nest (view c.in-Some.item) _ _ _ (left_pop _ _ _ c.in-Some.ensures.items) c.in-Parts.ensures.is c.loop-item.invariant.same);
+  same = rw (c.in_ok-push-in-Parts.ensures.ok, c.new-current-in-Parts.ensures.items, map_push) (parts_here _ _ c.loop-item.nest (view c.in-Some.item) _ _ _ (left_pop _ _ _ c.in-Some.ensures.items) c.in-Parts.ensures.is c.loop-item.invariant.same);
   room = omega arith;
 }
 
 pub loop-item-preserved-in_ok-push-in-Parts-2 : goal.loop-item-preserved-in_ok-push-in-Parts-2
 loop-item-preserved-in_ok-push-in-Parts-2 c = record {
-  same = rw (c.in_ok-push-in-Parts.ensures.items, c.new-current-in-Parts.ensures.items, map_push) (parts_here _ _ c.loop-item.nest (view c.in-Some.item) _ _ _ (left_pop _ _ _ c.in-Some.ensures.items) c.in-Parts.ensures.is c.loop-item.invariant.same);
+  same = rw (c.in_ok-push-in-Parts.ensures.ok, c.new-current-in-Parts.ensures.items, map_push) (parts_here _ _ c.loop-item.nest (view c.in-Some.item) _ _ _ (left_pop _ _ _ c.in-Some.ensures.items) c.in-Parts.ensures.is c.loop-item.invariant.same);
   room = omega arith;
 }
 

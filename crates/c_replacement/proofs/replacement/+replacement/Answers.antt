@@ -1,78 +1,74 @@
-use Rattle.std.proofs.Common.{◌≡◌, ◌≤◌, length, ap, Vec, Global, vec_len, arith, sym, ◌∙◌}
+use Rattle.std.proofs.Common.{◌≡◌, ◌≤◌, List, ◌++◌, map, length, refl, ap, sym, ◌∙◌, arith}
 use Rattle.std.proofs.lemmas.Result.{err_from_is_err_and}
-use Rattle.std.proofs.lemmas.List.{map_push, length-map, drop_all, append-nil}
+use Rattle.std.proofs.lemmas.List.{map_push, drop_all, append-nil}
 use Rattle.c_replacement.specs.declared.items.Argument.{Argument}
 use Rattle.c_replacement.specs.declared.items.Piece.TheVariants.{Plain, Parameter}
+use Rattle.c_expansion.specs.Macros.{Item}
+use Rattle.c_expansion.specs.Replacement.{hidden}
+use Rattle.c_replacement.specs.HideSets.{held}
 use Rattle.c_replacement.specs.Views.{view, views}
 use Rattle.c_replacement.proofs.Gathering.{left_pop, left_none}
-use Rattle.c_replacement.proofs.Owed.{completes_kept, completes_replaced, completes_over, call_refused, count_refused, argument_refused, finishes_plain, finishes_parameter, finishes_whole, parameter_refused}
-use Rattle.c_replacement.proofs.Arguments.{is_absent, is_again, is_expanded, is_refused, text_at, text_absent, dropped}
-use Rattle.c_replacement.proofs.replacement.+replacement.Goals.{substitute-in-Plain+in_ok-replacing-in-Plain+in_ok-push-in-Plain, substitute-in-Parameter+then-k-len+in_ok-count-in-Parameter+in_ok-push_hidden-in-Parameter, substitute-in-Parameter+else-k-len}
+use Rattle.c_replacement.proofs.Owed.{completes_kept, completes_over, completes_refused, call_refused, count_refused, argument_refused, it_becomes, adds_plain, adds_parameter, finishes_whole, parameter_refused}
+use Rattle.c_replacement.proofs.Arguments.{is_absent, is_again, is_expanded, is_refused, text_at, text_absent, dropped, put_back, put_count}
+use Rattle.c_replacement.proofs.replacement.+replacement.Goals.{substitute-in-Plain+in_ok-replacing-in-Plain+in_ok-push-in-Plain, substitute-in-Parameter+then-k-args+in_ok-count-in-Parameter+in_ok-push_hidden-in-Parameter, substitute-in-Parameter+else-k-args}
 use Rattle.c_replacement.proofs.replacement.+replacement.Goals as goal
 
 pub make_ready-returns-in-Expanded-clause-outcome : goal.make_ready-returns-in-Expanded-clause-outcome
 make_ready-returns-in-Expanded-clause-outcome t c =
-    is_again _ _ _ c.args.args.now.items c.args.k _ c.replace.new.dest c.in-Expanded.tokens (omega arith) c.index_mut.ensures.value c.in-Expanded.ensures.value
+    is_again _ _ _ c.args.args.now c.args.k _ c.replace.new.dest c.in-Expanded.tokens c.requires.index c.index-args-k.is (c.in-Expanded.ensures.value ∙ sym c.index-args-k.is)
 
 pub make_ready-returns-in_ok-tokens-in-Written-clause-outcome : goal.make_ready-returns-in_ok-tokens-in-Written-clause-outcome
 make_ready-returns-in_ok-tokens-in-Written-clause-outcome t c =
-    is_expanded _ _ _ _ c.args.args.now.items c.args.k _ c.replace.new.dest c.in-Written.tokens c.reverse.new.self c.in_ok-tokens-in-Written.tokens (omega arith) c.index_mut.ensures.value c.in-Written.ensures.value
-    c.reverse.ensures.items c.in_ok-tokens-in-Written.ensures.outcome
+    is_expanded _ _ _ _ c.args.args.now c.args.k _ c.replace.new.dest c.in-Written.tokens c.reverse.new.self c.in_ok-tokens-in-Written.tokens c.requires.index c.index-args-k.is
+    (c.in-Written.ensures.value ∙ sym c.index-args-k.is) c.reverse.ensures.items c.in_ok-tokens-in-Written.ensures.outcome
 
 pub make_ready-returns-in_err-tokens-in-Written-clause-outcome : goal.make_ready-returns-in_err-tokens-in-Written-clause-outcome
 make_ready-returns-in_err-tokens-in-Written-clause-outcome t c =
     let p = err_from_is_err_and c.from_residual.result c.from_residual.ensures.1 in
-    rw (p.1, p.2) (is_refused c.in_err-tokens-in-Written.field-0.0 _ _ _ c.args.args.now.items c.args.k _ c.in-Written.tokens c.reverse.new.self (omega arith) c.index_mut.ensures.value c.in-Written.ensures.value c.reverse.ensures.items c.in_err-tokens-in-Written.ensures.outcome)
+    rw (p.1, p.2) (is_refused c.in_err-tokens-in-Written.field-0.0 _ _ _ c.args.args.now c.args.k _ c.in-Written.tokens c.reverse.new.self c.requires.index c.index-args-k.is
+    (c.in-Written.ensures.value ∙ sym c.index-args-k.is) c.reverse.ensures.items c.in_err-tokens-in-Written.ensures.outcome)
 
-pub run-loop-item-preserved-in-Continue-branch-3 : goal.run-loop-item-preserved-in-Continue-branch-3
-run-loop-item-preserved-in-Continue-branch-3 t c =
-    let f = rw c.in-Stays.is at c.in_ok-turn_of.ensures.found in
-    let o = rw (left_pop c.loop-item.pending.items _ c.in-Some.item c.in-Some.ensures.items) at c.loop-item.invariant.owed in record {
-      from = c.loop-item.invariant.from;
-      owed = rw (c.in_ok-push-in-Stays.ensures.items, map_push, f.1) (completes_kept _ _ _ _ _ _ _ _ f.0 o);
-    }
-
-pub run-returns-in-BadCall-clause-outcome : goal.run-returns-in-BadCall-clause-outcome
-run-returns-in-BadCall-clause-outcome t c =
+pub stays-returns-in-BadCall-clause-outcome : goal.stays-returns-in-BadCall-clause-outcome
+stays-returns-in-BadCall-clause-outcome t c =
     let f = rw c.in-BadCall.is at c.in_ok-turn_of.ensures.found in
-    let o = rw (left_pop c.loop-item.pending.items _ c.in-Some.item c.in-Some.ensures.items) at c.loop-item.invariant.owed in
-    rw c.refuse.ensures (call_refused _ _ _ _ _ _ (view c.in-Some.item) _ f o)
+    rw c.refuse.ensures (call_refused _ _ _ (view c.args.item.now) _ _ c.in-Some.ensures f)
 
-pub run-returns-in_err-new-in-Becomes-clause-outcome : goal.run-returns-in_err-new-in-Becomes-clause-outcome
-run-returns-in_err-new-in-Becomes-clause-outcome t c =
-    let p = err_from_is_err_and c.from_residual-in_err-new-in-Becomes.result c.from_residual-in_err-new-in-Becomes.ensures.1 in
+pub stays-returns-in_err-now-in-Becomes-clause-outcome : goal.stays-returns-in_err-now-in-Becomes-clause-outcome
+stays-returns-in_err-now-in-Becomes-clause-outcome t c =
+    let p = err_from_is_err_and c.from_residual-in_err-now-in-Becomes.result c.from_residual-in_err-now-in-Becomes.ensures.1 in
     let f = rw c.in-Becomes.is at c.in_ok-turn_of.ensures.found in
-    let o = rw (left_pop c.loop-item.pending.items _ c.in-Some.item c.in-Some.ensures.items) at c.loop-item.invariant.owed in
-    let m = c.in_err-new-in-Becomes.ensures.outcome in
-    rw (p.1, p.2) (argument_refused _ _ _ _ _ _ c.in_err-new-in-Becomes.field-0.0 (view c.in-Some.item) _ _ _ _ _ f m o)
+    let m = rw c.as_mut_slice.ensures.value at c.in_err-now-in-Becomes.ensures.outcome in
+    rw (p.1, p.2) (argument_refused _ _ _ (view c.args.item.now) _ _ c.in-Some.ensures _ _ _ _ f c.in_err-now-in-Becomes.field-0.0 m)
 
-pub run-returns-then-passes_limit-clause-outcome : goal.run-returns-then-passes_limit-clause-outcome
-run-returns-then-passes_limit-clause-outcome t c =
+pub stays-returns-then-passes_limit-clause-outcome : goal.stays-returns-then-passes_limit-clause-outcome
+stays-returns-then-passes_limit-clause-outcome t c =
     let f = rw c.in-Becomes.is at c.in_ok-turn_of.ensures.found in
-    let o = rw (left_pop c.loop-item.pending.items _ c.in-Some.item c.in-Some.ensures.items) at c.loop-item.invariant.owed in
-    let m = c.in_ok-new-in-Becomes.ensures.outcome in
-    rw c.refuse-then-passes_limit.ensures (count_refused _ _ _ _ _ _ (view c.in-Some.item) _ _ (views c.in_ok-new-in-Becomes.new.items) c.in_ok-new-in-Becomes.now _ _ _ f m
-    (omega (arith, c.if-passes_limit.ensures, length-map c.in_ok-new-in-Becomes.new.items view)) o)
+    let m = rw c.as_mut_slice.ensures.value at c.in_ok-now-in-Becomes.ensures.outcome in
+    let n = put_count c.turn_of.new.pending.items c.substitute.new.new.items m.0 c.len-start.result (omega arith) m.1 c.len.result (omega arith) in
+    rw c.refuse-then-passes_limit.ensures (count_refused _ _ _ (view c.args.item.now) _ _ c.in-Some.ensures _ _ _ _ f m.0 c.in_ok-now-in-Becomes.now m.2 (omega (arith, n, c.if-passes_limit.ensures)))
 
-pub run-loop-item-preserved : goal.run-loop-item-preserved
-run-loop-item-preserved t c =
+pub stays-returns-else-passes_limit-clause-outcome : goal.stays-returns-else-passes_limit-clause-outcome
+stays-returns-else-passes_limit-clause-outcome t c =
     let f = rw c.in-Becomes.is at c.in_ok-turn_of.ensures.found in
-    let o = rw (left_pop c.loop-item.pending.items _ c.in-Some.item c.in-Some.ensures.items) at c.loop-item.invariant.owed in
-    let m = c.in_ok-new-in-Becomes.ensures.outcome in
-    let len : c.len-len.result ≡ length (views c.in_ok-new-in-Becomes.new.items) = omega (arith, length-map c.in_ok-new-in-Becomes.new.items view) in record {
-      from = omega (arith, c.in_ok-new-in-Becomes.ensures.counts);
-      owed = rw (len, c.in_ok-put_back-in-Becomes.ensures.tokens) (completes_replaced _ _ _ _ _ _ (view c.in-Some.item) _ _ _ _ _ _ _ f m (omega (arith, c.if-passes_limit.ensures, length-map c.in_ok-new-in-Becomes.new.items view)) o);
+    let m = rw c.as_mut_slice.ensures.value at c.in_ok-now-in-Becomes.ensures.outcome in
+    let start : c.len-start.result ≡ length c.turn_of.new.pending.items = omega arith in
+    let n = put_count c.turn_of.new.pending.items c.substitute.new.new.items m.0 c.len-start.result start m.1 c.len.result (omega arith) in
+    let back = put_back c.turn_of.new.pending.items c.substitute.new.new.items m.0 c.len-start.result start m.1 c.turn_from.new.list.items c.turn_from.ensures in
+    rw (n, back) (it_becomes _ _ _ (view c.args.item.now) _ _ c.in-Some.ensures _ _ _ _ f m.0 c.in_ok-now-in-Becomes.now m.2 (omega (arith, n, c.if-passes_limit.ensures)))
+
+pub run-loop-item-preserved-in-Continue-branch-2 : goal.run-loop-item-preserved-in-Continue-branch-2
+run-loop-item-preserved-in-Continue-branch-2 t c =
+    let s = rw c.if-branch.true at c.in_ok-stays.ensures.outcome in
+    let o = rw (left_pop c.loop-item.pending.items _ c.in-Some.item c.in-Some.ensures.items) at c.loop-item.invariant.owed in record {
+      from = omega (arith, c.in_ok-stays.ensures.counts);
+      owed = rw (c.in_ok-push.ensures.items, map_push, s.1, s.2) (completes_kept _ _ _ _ _ _ _ _ s.0 o);
     }
 
-pub run-loop-item-preserved-in_ok-put_back-in-Becomes : goal.run-loop-item-preserved-in_ok-put_back-in-Becomes
-run-loop-item-preserved-in_ok-put_back-in-Becomes t c =
-    let f = rw c.in-Becomes.is at c.in_ok-turn_of.ensures.found in
+pub run-returns-in_err-stays-clause-outcome : goal.run-returns-in_err-stays-clause-outcome
+run-returns-in_err-stays-clause-outcome t c =
+    let p = err_from_is_err_and c.from_residual.result c.from_residual.ensures.1 in
     let o = rw (left_pop c.loop-item.pending.items _ c.in-Some.item c.in-Some.ensures.items) at c.loop-item.invariant.owed in
-    let m = c.in_ok-new-in-Becomes.ensures.outcome in
-    let len : c.len-len.result ≡ length (views c.in_ok-new-in-Becomes.new.items) = omega (arith, length-map c.in_ok-new-in-Becomes.new.items view) in record {
-      from = omega (arith, c.in_ok-new-in-Becomes.ensures.counts);
-      owed = rw (len, c.in_ok-put_back-in-Becomes.ensures.tokens) (completes_replaced _ _ _ _ _ _ (view c.in-Some.item) _ _ _ _ _ _ _ f m (omega (arith, c.if-passes_limit.ensures, length-map c.in_ok-new-in-Becomes.new.items view)) o);
-    }
+    rw (p.1, p.2) (completes_refused _ _ _ _ _ _ c.in_err-stays.field-0.0 _ c.in_err-stays.ensures.outcome o)
 
 pub run-returns-clause-outcome : goal.run-returns-clause-outcome
 run-returns-clause-outcome t c =
@@ -87,23 +83,22 @@ substitute-loop-piece-preserved t c =
           let o = rw (dropped c.args.body.now c.loop-piece.piece-index c.piece-item.result (Plain w.in-Plain.kind w.in-Plain.spaced) (omega arith) (sym c.piece-item.is ∙ w.in-Plain.is)) at c.loop-piece.invariant.owed in record {
             deep = rw w.args-is c.loop-piece.invariant.deep;
             from = rw w.count-is c.loop-piece.invariant.from;
-            owed = rw (w.new-is, w.args-is, w.count-is, w.in_ok-push-in-Plain.ensures.items, map_push, w.in_ok-replacing-in-Plain.ensures) (finishes_plain _ _ _ _ _ _ _ _ _ _ w.in-Plain.kind.now w.in-Plain.spaced _ o);
+            owed = rw (w.new-is, w.args-is, w.count-is, w.in_ok-push-in-Plain.ensures.items) (adds_plain _ _ _ _ _ _ _ _ _ _ _ w.in-Plain.kind.now w.in-Plain.spaced _ w.in_ok-replacing-in-Plain.field-0 w.in_ok-replacing-in-Plain.ensures o);
           }
-      | substitute-in-Parameter+then-k-len+in_ok-count-in-Parameter+in_ok-push_hidden-in-Parameter w ↦
+      | substitute-in-Parameter+then-k-args+in_ok-count-in-Parameter+in_ok-push_hidden-in-Parameter w ↦
           let o = rw (dropped c.args.body.now c.loop-piece.piece-index c.piece-item.result (Parameter w.in-Parameter.k) (omega arith) (sym c.piece-item.is ∙ w.in-Parameter.is)) at c.loop-piece.invariant.owed in
-          let done = finishes_parameter _ _ _ _ _ _ _ _ _ _ w.in-Parameter.k _ _ _ w.in_ok-count-in-Parameter.ensures.outcome o in record {
-            deep = λ h. c.loop-piece.invariant.deep (omega (arith, ap (λ (v : Vec Argument Global). vec_len v) w.args-is, w.in_ok-count-in-Parameter.ensures.len));
+          let text = w.text.ensures ∙ sym (text_at w.make_ready.new.args w.in-Parameter.k w.index-args-k.result (omega (arith, w.in_ok-count-in-Parameter.ensures.len))) in
+          let put = w.in_ok-push_hidden-in-Parameter.ensures ∙ ap (λ (ts : List Item). views c.loop-piece.new.items ++ map (hidden (held c.args.hides.now.new)) ts) text in record {
+            deep = λ h. c.loop-piece.invariant.deep (omega (arith, ap (λ (xs : List Argument). length xs) w.args-is, w.in_ok-count-in-Parameter.ensures.len));
             from = rw w.count-is (omega (arith, w.in_ok-count-in-Parameter.ensures.counts));
-            owed = rw (w.new-is, w.args-is, w.count-is, w.in_ok-push_hidden-in-Parameter.ensures, w.text.ensures)
-                (rw (text_at w.make_ready.new.args.items w.in-Parameter.k w.index.result.now (omega (arith, w.in_ok-count-in-Parameter.ensures.len)) w.index.ensures) at done);
+            owed = rw (w.new-is, w.args-is, w.count-is) (adds_parameter _ _ _ _ _ _ _ _ _ _ _ w.in-Parameter.k _ _ _ _ w.in_ok-count-in-Parameter.ensures.outcome put o);
           }
-      | substitute-in-Parameter+else-k-len w ↦
+      | substitute-in-Parameter+else-k-args w ↦
           let o = rw (dropped c.args.body.now c.loop-piece.piece-index c.piece-item.result (Parameter w.in-Parameter.k) (omega arith) (sym c.piece-item.is ∙ w.in-Parameter.is)) at c.loop-piece.invariant.owed in
-          let none = is_absent _ _ _ c.loop-piece.args.items w.in-Parameter.k (omega arith) in
-          let done = finishes_parameter _ _ _ _ _ _ _ _ _ _ w.in-Parameter.k _ _ _ none o in record {
+          let none = is_absent _ _ _ c.loop-piece.args w.in-Parameter.k (omega arith) in record {
             deep = rw w.args-is c.loop-piece.invariant.deep;
             from = rw w.count-is c.loop-piece.invariant.from;
-            owed = rw (w.new-is, w.args-is, w.count-is) (rw (text_absent c.loop-piece.args.items w.in-Parameter.k (omega arith), append-nil) at done);
+            owed = rw (w.new-is, w.args-is, w.count-is) (adds_parameter _ _ _ _ _ _ _ _ _ _ _ w.in-Parameter.k _ _ _ _ none (rw (text_absent c.loop-piece.args w.in-Parameter.k (omega arith), append-nil) refl) o);
           }
     ]
 
@@ -111,10 +106,10 @@ pub substitute-returns-in_err-count-in-Parameter-clause-outcome : goal.substitut
 substitute-returns-in_err-count-in-Parameter-clause-outcome t c =
     let p = err_from_is_err_and c.from_residual-in_err-count-in-Parameter.result c.from_residual-in_err-count-in-Parameter.ensures.1 in
     let o = rw (dropped c.args.body.now c.loop-piece.piece-index c.piece-item.result (Parameter c.in-Parameter.k) (omega arith) (sym c.piece-item.is ∙ c.in-Parameter.is)) at c.loop-piece.invariant.owed in
-    rw (p.1, p.2) (parameter_refused _ _ _ _ _ _ _ _ _ _ c.in_err-count-in-Parameter.field-0.0 c.in-Parameter.k _ c.in_err-count-in-Parameter.ensures.outcome o)
+    rw (p.1, p.2) (parameter_refused _ _ _ _ _ _ _ _ _ _ c.in_err-count-in-Parameter.field-0.0 c.in-Parameter.k _ c.in_err-count-in-Parameter.ensures.outcome o.owed)
 
 pub substitute-returns-clause-outcome : goal.substitute-returns-clause-outcome
 substitute-returns-clause-outcome t c =
     let past : length c.args.body.now ≤ c.loop-piece.piece-index = omega arith in
     let o = rw (drop_all c.loop-piece.piece-index c.args.body.now past) at c.loop-piece.invariant.owed in
-    finishes_whole _ _ _ _ _ _ _ _ _ _ o
+    (o.added, o.stands, finishes_whole _ _ _ _ _ _ _ _ _ _ o.owed)

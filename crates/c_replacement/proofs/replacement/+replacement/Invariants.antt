@@ -1,19 +1,22 @@
-use Rattle.std.proofs.Common.{◌+◌, ◌-◌, ◌*◌, ◌≤◌, ◌<◌, drop, vec_len}
+use Rattle.std.proofs.Common.{◌+◌, ◌-◌, ◌*◌, ◌≤◌, ◌<◌, drop, length, vec_len}
 use Rattle.c_replacement.specs.declared.items.TheConstants.{NESTING_LIMIT}
 use Rattle.c_tokens.specs.Tokens.{token_limit}
 use Rattle.c_replacement.specs.HideSets.{held}
 use Rattle.c_replacement.specs.Views.{views, left, table, argument_views, piece_views}
-use Rattle.c_replacement.proofs.Owed.{Completes, Finishes}
+use Rattle.c_replacement.proofs.Owed.{Completes, Adds}
 use Rattle.c_replacement.proofs.replacement.+replacement.Given as goal
 
 abbrev pub decreases-make_ready : goal.decreases-make_ready
-decreases-make_ready l = 3 * (NESTING_LIMIT - l.depth)
+decreases-make_ready l = 4 * (NESTING_LIMIT - l.depth)
 
 abbrev pub decreases-substitute : goal.decreases-substitute
-decreases-substitute l = 3 * (NESTING_LIMIT - l.depth) + 1
+decreases-substitute l = 4 * (NESTING_LIMIT - l.depth) + 1
+
+abbrev pub decreases-stays : goal.decreases-stays
+decreases-stays l = 4 * (NESTING_LIMIT - l.depth) + 2
 
 abbrev pub decreases-run : goal.decreases-run
-decreases-run l = 3 * (NESTING_LIMIT - l.depth) + 2
+decreases-run l = 4 * (NESTING_LIMIT - l.depth) + 3
 
 abbrev pub invariant-run-loop-item : goal.invariant-run-loop-item
 invariant-run-loop-item l = record {
@@ -26,7 +29,7 @@ decreases-run-loop-item l = 2 * (token_limit - l.count) + vec_len l.pending
 
 abbrev pub invariant-substitute-loop-piece : goal.invariant-substitute-loop-piece
 invariant-substitute-loop-piece l = record {
-  deep : 0 < vec_len l.args → l.depth < NESTING_LIMIT;
+  deep : 0 < length l.args → l.depth < NESTING_LIMIT;
   from : l.from ≤ l.count;
-  owed : Finishes (table l.macros) l.depth l.place (held l.hide) l.from (argument_views l.fn.args.items) (piece_views l.body) (views l.new.items) l.count (argument_views l.args.items) (piece_views (drop l.piece-index l.body));
+  owed : Adds (table l.macros) l.depth l.place (held l.hides.new) l.from (argument_views l.fn.args) (piece_views l.body) l.initial.new.items l.new.items l.count (argument_views l.args) (piece_views (drop l.piece-index l.body));
 }

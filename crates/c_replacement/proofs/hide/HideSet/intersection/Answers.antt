@@ -1,8 +1,11 @@
+use Rattle.std.proofs.Common.{ap, ◌∙◌}
+use Rattle.std.proofs.lemmas.Result.{IfOk-weaker}
+use Rattle.c_replacement.specs.HideSets.{held}
 use Rattle.c_replacement.proofs.Merging.{shared_ascends, shared_is}
 use Rattle.c_replacement.proofs.hide.HideSet.intersection.Goals as goal
 
-pub invariant_of-result : goal.invariant_of-result
-invariant_of-result c = shared_ascends _ _ _ _ c.in_ok-shared.field-0.items c.deref.ensures c.deref-2.ensures c.in_ok-shared.ensures c.self.invariant
+pub of-requires : goal.of-requires
+of-requires c = shared_ascends _ _ c.in_ok-names.names.items c.in_ok-names.ensures c.names.ensures.ascends
 
 pub returns : goal.returns
-returns c = shared_is _ _ _ _ c.in_ok-shared.field-0.items c.deref.ensures c.deref-2.ensures _ _ c.self.view_is c.other.view_is c.in_ok-shared.ensures
+returns c = IfOk-weaker c.of.result _ _ (λ s e. ap held e ∙ shared_is _ _ c.in_ok-names.names.items _ _ c.names.ensures.names c.names-2.ensures.names c.in_ok-names.ensures) c.of.ensures

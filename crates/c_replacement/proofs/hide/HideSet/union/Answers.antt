@@ -1,8 +1,11 @@
+use Rattle.std.proofs.Common.{ap, ◌∙◌}
+use Rattle.std.proofs.lemmas.Result.{IfOk-weaker}
+use Rattle.c_replacement.specs.HideSets.{held}
 use Rattle.c_replacement.proofs.Merging.{merged_ascends, merged_is}
 use Rattle.c_replacement.proofs.hide.HideSet.union.Goals as goal
 
-pub invariant_of-result : goal.invariant_of-result
-invariant_of-result c = merged_ascends _ _ _ _ c.in_ok-merged.field-0.items c.deref.ensures c.deref-2.ensures c.in_ok-merged.ensures c.self.invariant c.other.invariant
+pub of-requires : goal.of-requires
+of-requires c = merged_ascends _ _ c.in_ok-names.names.items c.in_ok-names.ensures c.names-2.ensures.ascends c.names-3.ensures.ascends
 
 pub returns : goal.returns
-returns c = merged_is _ _ _ _ c.in_ok-merged.field-0.items c.deref.ensures c.deref-2.ensures _ _ c.self.view_is c.other.view_is c.in_ok-merged.ensures
+returns c = IfOk-weaker c.of.result _ _ (λ s e. ap held e ∙ merged_is _ _ c.in_ok-names.names.items _ _ c.names-2.ensures.names c.names-3.ensures.names c.in_ok-names.ensures) c.of.ensures
