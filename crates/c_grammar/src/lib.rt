@@ -4,5 +4,7 @@
 mod laws;
 mod terminals;
 
-pub use laws::{derives_one, expression_is_one, external_is_one};
+pub use laws::{
+    derived_is_low, derives_one, expression_is_one, external_is_one, height_is_its_trees,
+};
 pub use terminals::{Brackets, Keyword, Role, Terminal};
