@@ -1,0 +1,31 @@
+-- What a function that parses ensures: what reading finds, unless memory fails.
+use Rattle.std.specs.Prelude.{◌≡◌, ◌≢◌, ◌≤◌, ℕ, ◌+◌, List, length, Option, Some, None, Result, Ok, Err}
+use Rattle.c_grammar.specs.Terminals.{Lexeme}
+use Rattle.c_grammar.specs.Reading.{Read, found}
+use Rattle.parse_tokens.specs.declared.faults.ParseFault.{ParseFault}
+use Rattle.parse_tokens.specs.declared.faults.ParseFault.TheVariants as fault
+use Rattle.parse_tokens.specs.declared.faults.Tall.{Tall}
+
+-- a tree with its height, and the tokens that are left
+abbrev pub Gives : {A : Type 0} → Option (Read A) → Result (Tall A) ParseFault → List Lexeme → Type 0
+Gives read (Ok x) new = read ≡ Some (found x.tree x.height new)
+Gives read (Err e) new = e ≢ fault.NoMemory → read ≡ None
+
+-- a part without a height
+abbrev pub GivesPart : {A : Type 0} → Option (A × List Lexeme) → Result A ParseFault → List Lexeme → Type 0
+GivesPart read (Ok x) new = read ≡ Some (x, new)
+GivesPart read (Err e) new = e ≢ fault.NoMemory → read ≡ None
+
+-- a step without a tree
+abbrev pub Passes : Option (List Lexeme) → Result (Unit {0}) ParseFault → List Lexeme → Type 0
+Passes read (Ok x) new = read ≡ Some new
+Passes read (Err e) new = e ≢ fault.NoMemory → read ≡ None
+
+-- a tree is no higher than a number and the tokens that were taken
+abbrev pub Low : {A : Type 0} → ℕ → Result (Tall A) ParseFault → List Lexeme → List Lexeme → Type 0
+Low depth (Ok x) old new = x.height + length new ≤ depth + length old
+Low depth (Err e) old new = Unit {0}
+
+-- the tree that has been found, with the tokens behind it
+abbrev pub as_read : {A : Type 0} → Tall A → List Lexeme → Read A
+as_read x t = found x.tree x.height t

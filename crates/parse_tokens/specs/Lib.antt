@@ -1,0 +1,4 @@
+pub mod Cursor
+pub mod Gives
+pub mod Names
+pub mod Words

@@ -1,0 +1,16 @@
+//! Tokens as the parsers read them: each with what it is to the grammar.
+#![tactic(auto)]
+
+mod copies;
+mod faults;
+mod terminals;
+mod tokens;
+mod type_names;
+mod words;
+
+pub use copies::{copy_text, copy_token, text_of};
+pub use faults::{ParseFault, Tall};
+pub use terminals::{is_spec, is_tag, is_word};
+pub use tokens::Tokens;
+pub use type_names::TypeNames;
+pub use words::keyword;
