@@ -1,0 +1,5 @@
+pub mod AttributeSteps
+pub mod Lengths
+pub mod Misses
+pub mod SpecSteps
+pub mod Words
