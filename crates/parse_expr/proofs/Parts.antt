@@ -1,0 +1,167 @@
+-- Productions, and the parts in which they are read.
+use Rattle.std.specs.Prelude.{if◌then◌else◌}
+use Rattle.std.proofs.Common.{◌≡◌, ℕ, suc, ◌+◌, max, List, [], ◌∷◌, length, Result, Ok, Err, Option, Some, None, Bool, true, false, ◌<◌, ◌≤◌, refl, sym, ap, subst, ◌∙◌, arith}
+use Rattle.fc_base.specs.declared.refusals.Place.{Place}
+use Rattle.c_tokens.specs.declared.puncts.Punct.TheVariants as p
+use Rattle.c_tokens.specs.declared.tokens.Token.{Token}
+use Rattle.c_tree.specs.declared.nodes.Expr.{Expr}
+use Rattle.c_tree.specs.declared.nodes.ExprKind.TheVariants as e
+use Rattle.c_tree.specs.declared.nodes.PointerWord.{PointerWord}
+use Rattle.c_tree.specs.declared.nodes.PointerWord.TheVariants as pointer
+use Rattle.c_tree.specs.declared.nodes.Declarator.TheVariants as d
+use Rattle.c_grammar.specs.declared.terminals.Keyword.TheVariants as w
+use Rattle.c_grammar.specs.declared.terminals.Role.{Role}
+use Rattle.c_grammar.specs.declared.terminals.Role.TheVariants as role
+use Rattle.c_grammar.specs.declared.terminals.Terminal.{Terminal}
+use Rattle.c_grammar.specs.declared.terminals.Terminal.TheVariants as k
+use Rattle.c_grammar.specs.Terminals.{Lexeme, at, text_of, place_of, is_tag}
+use Rattle.c_grammar.specs.Expressions.{expr}
+use Rattle.c_grammar.specs.Reading as spec
+use Rattle.c_grammar.specs.Reading.{◌>>=◌, Read, Left, found, left}
+use Rattle.c_grammar.proofs.Alone.{alike_length, words_move}
+use Rattle.c_grammar.proofs.SoundParts.{pointer_words_sound}
+use Rattle.parse_tokens.specs.declared.faults.ParseFault.{ParseFault}
+use Rattle.parse_tokens.specs.declared.faults.Tall.{Tall}
+use Rattle.parse_tokens.specs.Gives.{Low}
+use Rattle.parse_expr.specs.Abstracts as abstracts
+use Rattle.parse_expr.specs.Openings as openings
+use Rattle.parse_expr.specs.Tails as tails
+use Rattle.parse_expr.specs.Tails.{tall, with_tail, tail_of, go_on}
+use Rattle.parse_expr.specs.declared.tails.Tail.{Tail}
+use Rattle.parse_expr.specs.declared.tails.Tail.TheVariants as tail
+
+-- one reader after another
+bind_bind : {A B C : Type 0} (o : Option A) (f : A → Option B) (g : B → Option C) → ((o >>= f) >>= g) ≡ (o >>= λ x. f x >>= g)
+bind_bind None f g = refl
+bind_bind (Some x) f g = refl
+
+bind_same : {A B : Type 0} (o : Option A) (f g : A → Option B) → ((x : A) → f x ≡ g x) → (o >>= f) ≡ (o >>= g)
+bind_same None f g h = refl
+bind_same (Some x) f g h = h x
+
+-- a tree, and a token behind it
+token_behind : {A B : Type 0} (o : Option (Read A)) (after : List Lexeme → Option (List Lexeme)) (g : Read A → Option B) →
+    ((o >>= λ x. after x.rest >>= λ u. Some (found x.tree x.height u)) >>= g) ≡ (o >>= λ x. after x.rest >>= λ u. g (found x.tree x.height u))
+token_behind o after g = bind_bind o _ g ∙ bind_same o _ _ (λ x. bind_bind (after x.rest) _ g)
+
+module _ (n : ℕ) (sub : ℕ → List Lexeme → Option (Read Expr)) where
+  -- ---- What an expression begins with
+
+  pub converted_parts : (place : Place) (t : List Lexeme) → spec.converted n sub place t ≡ openings.converted n sub place t
+  unfolding spec.converted
+  converted_parts place t = sym (token_behind (spec.type_name n sub t) spec.after_right_paren _)
+
+  sized_type_parts : (place : Place) (t : List Lexeme) → spec.sized_type n sub place t ≡ openings.sized_type n sub place t
+  unfolding spec.sized_type
+  sized_type_parts place t = sym (token_behind (spec.type_name n sub t) spec.after_right_paren _)
+
+  pub sized_parts : (place : Place) (t : List Lexeme) → spec.sized n sub place t ≡ openings.sized n sub place t
+  sized_parts place [] = refl
+  sized_parts place (at (k.Punct p.LeftParen) q ∷ t) = rw (sized_type_parts place t) refl
+  sized_parts place _ = refl
+
+  pub size_called_parts : (place : Place) (s : List Lexeme) → spec.size_called n sub place s ≡ openings.size_called n sub place s
+  unfolding spec.size_called
+  size_called_parts place s =
+      bind_same (spec.after_left_paren s) _ _ (λ t.
+      bind_same (sub 15 t) _ _ (λ x.
+      bind_same (spec.after_comma x.rest) _ _ (λ u.
+      sym (token_behind (sub 14 u) spec.after_right_paren _))
+      ∙ sym (bind_bind (spec.after_comma x.rest) _ _))
+      ∙ sym (bind_bind (sub 15 t) _ _))
+      ∙ sym (bind_bind (spec.after_left_paren s) _ _)
+
+  pub prefix_sizeof : (o : Token) (s t : List Lexeme) → s ≡ at (k.Word w.Sizeof) o ∷ t → spec.prefix n sub s ≡ openings.sized n sub o.place t
+  unfolding spec.prefix
+  prefix_sizeof o s t e = ap (spec.prefix n sub) e ∙ sized_parts o.place t
+
+  pub prefix_size_call : (o : Token) (s t : List Lexeme) → s ≡ at (k.Word w.DynamicObjectSize) o ∷ t → spec.prefix n sub s ≡ openings.size_called n sub o.place t
+  unfolding spec.prefix
+  prefix_size_call o s t e = ap (spec.prefix n sub) e ∙ size_called_parts o.place t
+
+  type_opens : (b : Bool) → (if b then false else true) ≡ false → b ≡ true
+  type_opens true e = refl
+  type_opens false e = cc
+
+  pub prefix_type : (o : Token) (s t : List Lexeme) → s ≡ at (k.Punct p.LeftParen) o ∷ t → openings.opens_group s ≡ false → spec.prefix n sub s ≡ openings.converted n sub o.place t
+  unfolding spec.prefix
+  prefix_type o s t e plain =
+      let begins = type_opens (spec.begins_spec t) (ap openings.opens_group (sym e) ∙ plain) in
+      ap (spec.prefix n sub) e ∙ ap (λ b. spec.opened n sub (spec.prefix n sub t) b o.place t) begins ∙ converted_parts o.place t
+
+  -- ---- How it goes on
+
+  module _ (start : Place) (x : Expr) (h : ℕ) (r : List Lexeme) (place : Place) where
+    -- with a tail that has been read
+    abbrev behind : Tail × List Lexeme → Option Left
+    behind y = Some (with_tail start x h y.0 place y.1)
+
+    called_some : (t : List Lexeme) → spec.called_some n sub (found x h r) t ≡ ((tails.arguments_some n sub t >>= λ xs. Some (tail.Call (tall xs), xs.rest)) >>= behind)
+    unfolding spec.called_some
+    called_some t = sym (bind_bind (tails.arguments_some n sub t) _ behind ∙ token_behind (spec.exprs n sub (length t) t) spec.after_right_paren _)
+
+    called_parts : (t : List Lexeme) → spec.called n sub (found x h r) t ≡ (tail_of n sub role.Call t >>= behind)
+    called_parts [] = called_some []
+    called_parts (at (k.Punct p.RightParen) o ∷ t) =
+        let height : h ≡ max h 0 = omega arith in ap (λ j. Some (left 1 (expr (e.Call x []) x.place) (suc j) t)) height
+    called_parts (c ∷ t) = called_some (c ∷ t)
+
+    chosen : (b : Bool) (y : Tail × List Lexeme) → (if b then behind y else None) ≡ ((if b then Some y else None) >>= behind)
+    chosen true y = refl
+    chosen false y = refl
+
+    by_parts : (as_role : Role) (t : List Lexeme) → spec.next_by n sub start (found x h r) as_role place t ≡ (tail_of n sub as_role t >>= behind)
+    unfolding spec.indexed spec.chosen spec.assigned_to spec.joined spec.listed
+    by_parts role.Call t = called_parts t
+    by_parts role.Index t = sym (bind_bind (tails.bracketed n sub t) _ behind ∙ token_behind (sub 16 t) spec.after_right_bracket _)
+    by_parts (role.Member arrow) [] = refl
+    by_parts (role.Member arrow) (at c q ∷ t) = chosen (is_tag c) (tail.Member arrow (text_of q) q.place, t)
+    by_parts (role.Step b) t = refl
+    by_parts role.Choice t =
+        sym (bind_bind (tails.colon_ended n sub t) _ behind ∙ bind_same (tails.colon_ended n sub t) _ _ (λ y. bind_bind (sub 14 y.rest) _ behind)
+        ∙ token_behind (sub 16 t) spec.after_colon _)
+    by_parts (role.Assign b) t = sym (bind_bind (sub 15 t) _ behind)
+    by_parts (role.Join b l) t = sym (bind_bind (sub l t) _ behind)
+    by_parts role.List t = sym (bind_bind (spec.exprs n sub (length t) t) _ behind)
+    by_parts role.Str t = refl
+    by_parts role.End t = refl
+
+    from_parts : (l : ℕ) (c : Terminal) (t : List Lexeme) → spec.next_from n sub start (left l x h r) c place t ≡ go_on n sub start l x h (spec.role_of c) place t
+    unfolding spec.next_from
+    from_parts l c t = rw (by_parts (spec.role_of c) t) refl
+
+  pub next_parts : (start : Place) (l : ℕ) (x : Expr) (h : ℕ) (c : Terminal) (o : Token) (s t : List Lexeme) → s ≡ at c o ∷ t →
+      spec.next_in n sub start (left l x h s) s ≡ go_on n sub start l x h (spec.role_of c) o.place t
+  next_parts start l x h c o s t e = ap (λ r. spec.next_in n sub start (left l x h r) r) e ∙ from_parts start x h (at c o ∷ t) o.place l c t
+
+-- ---- Abstract declarators
+
+-- the first star is taken
+pub star_taken : (o : Token) (s t : List Lexeme) → s ≡ at (k.Punct p.Star) o ∷ t → length (spec.pointer_words s).1 < length s
+unfolding spec.pointer_words
+star_taken o s t e =
+    let kept : length (spec.pointer_words t).1 ≤ length t = alike_length (words_move (pointer_words_sound t) []).1 in
+    subst (λ r. length (spec.pointer_words r).1 < length r) (sym e) (omega (arith, kept))
+
+pub low_behind : {A : Type 0} (depth : ℕ) (r : Result (Tall A) ParseFault) (old mid new : List Lexeme) → length mid < length old → Low (depth + 2) r mid new → Low (depth + 1) r old new
+low_behind depth (Ok x) old mid new less low = omega arith
+low_behind depth (Err e) old mid new less low = tt
+
+module _ (sub : ℕ → List Lexeme → Option (Read Expr)) (place : Place) where
+  group_of_parts : (start star : Place) (r : List PointerWord × List Lexeme) → spec.group_of sub place start star r ≡ abstracts.group_with sub place start star r.0 r.1
+  unfolding spec.group_behind
+  group_of_parts start star ([], s) = refl
+  group_of_parts start star (w ∷ ws, s) =
+      sym (bind_bind (spec.after_right_paren s) _ _ ∙ bind_same (spec.after_right_paren s) _ _ (λ t. bind_bind (spec.after_left_bracket t) _ _))
+
+  pub group_parts : (o : Token) (s t : List Lexeme) → s ≡ at (k.Punct p.LeftParen) o ∷ t → spec.abstract_direct sub place s ≡ abstracts.group_at sub place o.place t
+  group_parts o s t e = ap (spec.abstract_direct sub place) e ∙ group_of_parts o.place (place_of t) (spec.stars t)
+
+  pointer_of_parts : (star : Place) (r : List PointerWord × List Lexeme) → spec.abstract_pointer_of sub place star r
+      ≡ (spec.abstract_direct sub place r.1 >>= λ x. Some (found (d.Pointer (pointer.Star ∷ r.0) x.tree star) (suc x.height) x.rest))
+  unfolding spec.abstract_pointer
+  pointer_of_parts star (ws, s) = refl
+
+  pub pointer_parts : (o : Token) (s t : List Lexeme) → s ≡ at (k.Punct p.Star) o ∷ t → spec.abstract sub place s ≡ abstracts.pointer_at sub place s
+  unfolding spec.pointer_words
+  pointer_parts o s t e = rw e (pointer_of_parts o.place (spec.pointer_words t))

@@ -1,0 +1,103 @@
+-- How far a span goes, and what the reading of its tokens says.
+use Rattle.std.proofs.Common.{◌≡◌, ℕ, zero, suc, ◌<◌, ◌≤◌, List, [], ◌∷◌, length, get_or, drop, take, map, Some, None, Bool, true, false, refl, sym, ap, ◌∙◌, arith}
+use Rattle.std.specs.Prelude.{if◌then◌else◌}
+use Rattle.c_tokens.specs.declared.tokens.Token.{Token}
+use Rattle.c_tree.specs.declared.nodes.Expr.{Expr}
+use Rattle.c_grammar.specs.Terminals.{Lexeme, lexeme}
+use Rattle.c_grammar.specs.Expressions.{IsExpr}
+use Rattle.c_grammar.specs.Spans.{ends, questions_after, brackets_after, span, Spells}
+use Rattle.c_grammar.specs.Reading.{found, expression}
+use Rattle.c_grammar.proofs.Complete.{Ends}
+use Rattle.c_grammar.proofs.CompleteExprs.{expression_reads}
+use Rattle.c_grammar.proofs.Sound.{expression_sound}
+use Rattle.parse_expr.specs.declared.spans.ExprForm.{ExprForm}
+use Rattle.parse_expr.specs.declared.spans.ExprForm.TheVariants.{Full, Assign, Cond}
+use Rattle.parse_expr.specs.Forms.{level_of, ends_at_commas}
+use Rattle.parse_parts.proofs.Misses.{nothing_found, some_same}
+
+-- ---- The tokens of a span
+
+-- they are the first of the list
+front_outside : (b : Bool) (o : Token) (rest s : List Token) → take (length rest) s ≡ rest → take (length (if b then [] else o ∷ rest)) (o ∷ s) ≡ (if b then [] else o ∷ rest)
+front_outside true o rest s e = refl
+front_outside false o rest s e = ap (λ t. o ∷ t) e
+
+pub span_front : (commas : Bool) (brackets questions : ℕ) (s : List Token) → take (length (span commas brackets questions s)) s ≡ span commas brackets questions s
+span_front commas brackets questions [] = refl
+span_front commas zero questions (o ∷ s) =
+    front_outside (ends commas questions o.kind) o _ s (span_front commas (brackets_after zero o.kind) (questions_after questions o.kind) s)
+span_front commas (suc n) questions (o ∷ s) = ap (λ t. o ∷ t) (span_front commas (brackets_after (suc n) o.kind) questions s)
+
+within_outside : (b : Bool) (o : Token) (rest s : List Token) → length rest ≤ length s → length (if b then [] else o ∷ rest) ≤ suc (length s)
+within_outside true o rest s e = omega arith
+within_outside false o rest s e = omega arith
+
+pub span_within : (commas : Bool) (brackets questions : ℕ) (s : List Token) → length (span commas brackets questions s) ≤ length s
+span_within commas brackets questions [] = omega arith
+span_within commas zero questions (o ∷ s) =
+    within_outside (ends commas questions o.kind) o _ s (span_within commas (brackets_after zero o.kind) (questions_after questions o.kind) s)
+span_within commas (suc n) questions (o ∷ s) = omega (arith, span_within commas (brackets_after (suc n) o.kind) questions s)
+
+module _ (commas : Bool) (questions : ℕ) where
+  pub span_stops : (s : List Token) (i : ℕ) (other : Token) → i < length s → ends commas questions (get_or s i other).kind ≡ true → length (span commas 0 questions (drop i s)) ≡ 0
+  span_stops [] i other low e = absurd (omega arith)
+  span_stops (o ∷ s) zero other low e = rw e refl
+  span_stops (o ∷ s) (suc i) other low e = span_stops s i other (omega arith) e
+
+  pub span_outside : (s : List Token) (i : ℕ) (other : Token) → i < length s → ends commas questions (get_or s i other).kind ≡ false →
+      length (span commas 0 questions (drop i s)) ≡ suc (length (span commas (brackets_after 0 (get_or s i other).kind) (questions_after questions (get_or s i other).kind) (drop (suc i) s)))
+  span_outside [] i other low e = absurd (omega arith)
+  span_outside (o ∷ s) zero other low e = rw e refl
+  span_outside (o ∷ s) (suc i) other low e = span_outside s i other (omega arith) e
+
+  pub span_inside : (s : List Token) (i n : ℕ) (other : Token) → i < length s → 0 < n →
+      length (span commas n questions (drop i s)) ≡ suc (length (span commas (brackets_after n (get_or s i other).kind) questions (drop (suc i) s)))
+  span_inside [] i n other low some = absurd (omega arith)
+  span_inside (o ∷ s) zero zero other low some = absurd (omega arith)
+  span_inside (o ∷ s) zero (suc n) other low some = refl
+  span_inside (o ∷ s) (suc i) n other low some = span_inside s i n other (omega arith) some
+
+pub span_over : (commas : Bool) (brackets questions : ℕ) (s : List Token) (i : ℕ) → length s ≤ i → length (span commas brackets questions (drop i s)) ≡ 0
+span_over commas brackets questions [] zero low = refl
+span_over commas brackets questions [] (suc i) low = refl
+span_over commas brackets questions (o ∷ s) zero low = absurd (omega arith)
+span_over commas brackets questions (o ∷ s) (suc i) low = span_over commas brackets questions s i (omega arith)
+
+-- ---- What reading says of a whole span
+
+form_ends : (form : ExprForm) → Ends (level_of form) []
+form_ends Full = record { stops = omega arith; last = omega arith }
+form_ends Assign = record { stops = omega arith; last = omega arith }
+form_ends Cond = record { stops = omega arith; last = omega arith }
+
+nothing_behind : (t : List Lexeme) → length t ≡ 0 → t ≡ []
+nothing_behind [] e = refl
+nothing_behind (x ∷ t) e = absurd (omega arith)
+
+module _ (types : List (List ℕ)) (form : ExprForm) (s : List Token) where
+  -- the tokens that are read, and the level at which they are, as code finds them
+  pub front_read : (commas : Bool) (level n : ℕ) (read : List Lexeme) → commas ≡ ends_at_commas form → level ≡ level_of form → n ≡ length (span commas 0 0 s)
+      → read ≡ map (lexeme types) (take n s)
+      → expression 400 level read ≡ expression 400 (level_of form) (map (lexeme types) (span (ends_at_commas form) 0 0 s))
+  front_read commas level n read c l e r = rw (r, e, span_front commas 0 0 s, c, l) refl
+
+  read_whole : (x : Expr) (h : ℕ) → h ≤ 400 → IsExpr (level_of form) (map (lexeme types) s) x h [] →
+      expression 400 (level_of form) (map (lexeme types) s) ≡ Some (found x h [])
+  read_whole x h low d = expression_reads 400 (level_of form) h (map (lexeme types) s) [] x d low (form_ends form)
+
+  pub read_spells : (x : Expr) (h : ℕ) (t : List Lexeme) → length t ≡ 0 → expression 400 (level_of form) (map (lexeme types) s) ≡ Some (found x h t) → Spells types (level_of form) s x
+  read_spells x h t nothing_left e =
+      let none = nothing_behind t nothing_left in
+      let d = expression_sound 400 (level_of form) (map (lexeme types) s) in
+      let f = rw (e, none) at d in
+      record { height = h; low = f.low; derives = f.derives }
+
+  pub none_spelled : expression 400 (level_of form) (map (lexeme types) s) ≡ None → (x : Expr) → ¬ (Spells types (level_of form) s x)
+  none_spelled e x d = nothing_found (sym e ∙ read_whole x d.height d.low d.derives)
+
+  pub more_left : (x : Expr) (h : ℕ) (t : List Lexeme) → 0 < length t → expression 400 (level_of form) (map (lexeme types) s) ≡ Some (found x h t) →
+      (y : Expr) → ¬ (Spells types (level_of form) s y)
+  more_left x h t some e y d =
+      let same : found x h t ≡ found y d.height [] = some_same (sym e ∙ read_whole y d.height d.low d.derives) in
+      let none : length t ≡ 0 = ap (λ r. length r.rest) same in
+      absurd (omega arith)

@@ -1,0 +1,235 @@
+//! Type names and abstract declarators (C11 6.7.7), and the bounds of arrays (C11 6.7.6.2).
+
+ghost use Rattle.std.specs.Prelude.{◌≡◌, ◌≤◌, ◌<◌, ◌+◌, ◌^◌, length, IfOk};
+ghost use Rattle.c_tree.specs.declared.nodes.Declarator.TheVariants as d;
+ghost use Rattle.c_grammar.specs.Terminals.{place_of};
+ghost use Rattle.c_grammar.specs.Reading as spec;
+ghost use Rattle.parse_tokens.specs.Gives.{Gives, Low};
+ghost use Rattle.parse_expr.specs.Abstracts.{group_bound, group_at, pointer_at};
+ghost use Rattle.parse_expr.specs.Nests.{Nests};
+
+use crate::grammar::Grammar;
+use crate::lefts::CONDITIONAL;
+use c_grammar::Terminal;
+use c_tokens::Punct;
+use c_tree::{Declarator, Expr, PointerWord, TypeName};
+use fc_base::Place;
+use parse_parts::{Context, plain_specs, pointer_words, stars};
+use parse_tokens::{ParseFault, Tall, Tokens};
+use sqlite_items::{Boxed, Items};
+use std::alloc::{AllocError, Global};
+
+/// How many nodes a declarator may have one in another while it is read. A tree is let go by recursion, and for more
+/// there is no room on the stack: so its answer is want of memory.
+pub const HIGHEST_DECLARATOR: usize = 4_096;
+
+/// `a[b]`, where `a` began at `start`.
+fn array(
+    alloc: Global,
+    of: Tall<Declarator>,
+    bound: Option<Boxed<Expr>>,
+    start: Place,
+) -> Result<Declarator, AllocError>
+    ensures { IfOk result (λ x. x ≡ d.Array of.tree bound start) }
+{
+    if of.height >= HIGHEST_DECLARATOR {
+        return Err(AllocError);
+    }
+    Ok(Declarator::Array {
+        of: Boxed::new(alloc, of.tree)?,
+        bound,
+        place: start,
+    })
+}
+
+/// `* a`
+fn pointed(
+    alloc: Global,
+    words: Items<PointerWord>,
+    of: Declarator,
+    star: Place,
+) -> Result<Declarator, AllocError>
+    ensures { IfOk result (λ x. x ≡ d.Pointer words of star) }
+{
+    Ok(Declarator::Pointer {
+        words,
+        of: Boxed::new(alloc, of)?,
+        place: star,
+    })
+}
+
+impl<F: Fn(Global, &mut Tokens<'_>, usize, u8) -> Result<Tall<Expr>, ParseFault>> Grammar<F> {
+    #[tactic(auto, unfolding(c_grammar::specs::Reading::bound_some))]
+    fn bound_some(&self, tokens: &mut Tokens<'_>) -> Result<Tall<Option<Boxed<Expr>>>, ParseFault>
+        requires { Nests self.now.depth (F.pre self.now.expr) (F.post self.now.expr) }
+        ensures reads { Gives (spec.bound_some (spec.expression self.now.depth) tokens.old) result tokens.new }
+        ensures low { IfOk result (λ x. x.height ≤ self.now.depth) }
+    {
+        let bound = self.sub(tokens, CONDITIONAL)?;
+        tokens.expect_right_bracket()?;
+        Ok(Tall {
+            tree: Some(Boxed::new(self.alloc, bound.tree)?),
+            height: bound.height,
+        })
+    }
+
+    /// A bound or none, and the bracket that closes.
+    pub fn bound(&self, tokens: &mut Tokens<'_>) -> Result<Tall<Option<Boxed<Expr>>>, ParseFault>
+        requires { Nests self.now.depth (F.pre self.now.expr) (F.post self.now.expr) }
+        ensures reads { Gives (spec.bound (spec.expression self.now.depth) tokens.old) result tokens.new }
+        ensures low { IfOk result (λ x. x.height ≤ self.now.depth) }
+        ensures on { IfOk result (λ _. length tokens.new < length tokens.old) }
+    {
+        match tokens.peek() {
+            Some(Terminal::Punct(Punct::RightBracket)) => {
+                tokens.next();
+                Ok(Tall {
+                    tree: None,
+                    height: 0,
+                })
+            }
+            _ => self.bound_some(tokens),
+        }
+    }
+
+    /// Any number of bounds.
+    fn arrays(&self, tokens: &mut Tokens<'_>, place: Place) -> Result<Tall<Declarator>, ParseFault>
+        requires { Nests self.now.depth (F.pre self.now.expr) (F.post self.now.expr) }
+        ensures reads { Gives (spec.arrays (spec.expression self.now.depth) place (length tokens.old) (place_of tokens.old) (spec.found (d.Omitted place) 1 tokens.old)) result tokens.new }
+        ensures low { Low (self.now.depth + 1) result tokens.old tokens.new }
+        ensures few { length tokens.old < 2 ^ 63 }
+    {
+        let start = tokens.place();
+        let mut tree = Declarator::Omitted { place };
+        let mut height = 1;
+        for _turn in 0..tokens.left() {
+            if !tokens.take_left_bracket() {
+                return Ok(Tall { tree, height });
+            }
+            let bound = self.bound(tokens)?;
+            tree = array(self.alloc, Tall { tree, height }, bound.tree, start)?;
+            height = height.max(bound.height) + 1;
+        }
+        if tokens.take_left_bracket() {
+            Err(ParseFault::NoDerivation)
+        } else {
+            Ok(Tall { tree, height })
+        }
+    }
+
+    /// `)[a]`
+    fn group_bound(&self, tokens: &mut Tokens<'_>) -> Result<Tall<Option<Boxed<Expr>>>, ParseFault>
+        requires { Nests self.now.depth (F.pre self.now.expr) (F.post self.now.expr) }
+        ensures reads { Gives (group_bound (spec.expression self.now.depth) tokens.old) result tokens.new }
+        ensures low { IfOk result (λ x. x.height ≤ self.now.depth) }
+        ensures on { IfOk result (λ _. length tokens.new + 3 ≤ length tokens.old) }
+    {
+        tokens.expect_right_paren()?;
+        tokens.expect_left_bracket()?;
+        self.bound(tokens)
+    }
+
+    /// `*)[a]` behind the parenthesis at `start`.
+    fn group(
+        &self,
+        tokens: &mut Tokens<'_>,
+        place: Place,
+        start: Place,
+    ) -> Result<Tall<Declarator>, ParseFault>
+        requires { Nests self.now.depth (F.pre self.now.expr) (F.post self.now.expr) }
+        ensures reads { Gives (group_at (spec.expression self.now.depth) place start tokens.old) result tokens.new }
+        ensures low { Low (self.now.depth + 2) result tokens.old tokens.new }
+    {
+        let star = tokens.place();
+        let words = stars(self.alloc, tokens)?;
+        if words.is_empty() {
+            return Err(ParseFault::NoDerivation);
+        }
+        let bound = self.group_bound(tokens)?;
+        let tree = pointed(self.alloc, words, Declarator::Omitted { place }, star)?;
+        Ok(Tall {
+            tree: array(self.alloc, Tall { tree, height: 2 }, bound.tree, start)?,
+            height: 2usize.max(bound.height) + 1,
+        })
+    }
+
+    fn abstract_direct(
+        &self,
+        tokens: &mut Tokens<'_>,
+        place: Place,
+    ) -> Result<Tall<Declarator>, ParseFault>
+        requires { Nests self.now.depth (F.pre self.now.expr) (F.post self.now.expr) }
+        ensures reads { Gives (spec.abstract_direct (spec.expression self.now.depth) place tokens.old) result tokens.new }
+        ensures low { Low (self.now.depth + 1) result tokens.old tokens.new }
+        ensures few { length tokens.old < 2 ^ 63 }
+    {
+        match tokens.peek() {
+            Some(Terminal::Punct(Punct::LeftParen)) => {
+                let start = tokens.place();
+                tokens.next();
+                self.group(tokens, place, start)
+            }
+            _ => self.arrays(tokens, place),
+        }
+    }
+
+    /// `* const [2]`
+    fn abstract_pointer(
+        &self,
+        tokens: &mut Tokens<'_>,
+        place: Place,
+    ) -> Result<Tall<Declarator>, ParseFault>
+        requires { Nests self.now.depth (F.pre self.now.expr) (F.post self.now.expr) }
+        ensures reads { Gives (pointer_at (spec.expression self.now.depth) place tokens.old) result tokens.new }
+        ensures low { Low (self.now.depth + 2) result (spec.pointer_words tokens.old).1 tokens.new }
+    {
+        let star = tokens.place();
+        let words = pointer_words(self.alloc, tokens)?;
+        let of = self.abstract_direct(tokens, place)?;
+        Ok(Tall {
+            tree: pointed(self.alloc, words, of.tree, star)?,
+            height: of.height + 1,
+        })
+    }
+
+    /// An abstract declarator, with the place of the first token of its parameter or type name.
+    pub fn abstract_declarator(
+        &self,
+        tokens: &mut Tokens<'_>,
+        place: Place,
+    ) -> Result<Tall<Declarator>, ParseFault>
+        requires { Nests self.now.depth (F.pre self.now.expr) (F.post self.now.expr) }
+        ensures reads { Gives (spec.abstract (spec.expression self.now.depth) place tokens.old) result tokens.new }
+        ensures low { Low (self.now.depth + 1) result tokens.old tokens.new }
+        ensures few { length tokens.old < 2 ^ 63 }
+    {
+        match tokens.peek() {
+            Some(Terminal::Punct(Punct::Star)) => self.abstract_pointer(tokens, place),
+            _ => self.abstract_direct(tokens, place),
+        }
+    }
+
+    /// A type name no higher than the parts.
+    #[tactic(auto, unfolding(c_grammar::specs::Reading::type_name))]
+    pub fn type_name(&self, tokens: &mut Tokens<'_>) -> Result<Tall<TypeName>, ParseFault>
+        requires { Nests self.now.depth (F.pre self.now.expr) (F.post self.now.expr) }
+        ensures reads { Gives (spec.type_name self.now.depth (spec.expression self.now.depth) tokens.old) result tokens.new }
+        ensures low { IfOk result (λ x. x.height ≤ self.now.depth) }
+    {
+        let place = tokens.place();
+        let specs = plain_specs(self.alloc, tokens, Context::Inner)?;
+        let declarator = self.abstract_declarator(tokens, place)?;
+        let height = specs.height.max(declarator.height) + 1;
+        if height > self.depth {
+            return Err(ParseFault::NoDerivation);
+        }
+        Ok(Tall {
+            tree: TypeName {
+                specs: specs.tree.specs,
+                declarator: declarator.tree,
+                place,
+            },
+            height,
+        })
+    }
+}

@@ -1,0 +1,256 @@
+//! How expressions go on (C11 6.5.2 and 6.5.5 to 6.5.17).
+
+ghost use Rattle.std.specs.Prelude.{◌≡◌, ◌≤◌, ◌<◌, ◌+◌, List, Some, length, IfOk};
+ghost use Rattle.c_grammar.specs.Terminals.{Lexeme};
+ghost use Rattle.c_grammar.specs.Reading as spec;
+ghost use Rattle.parse_tokens.specs.Gives.{Gives, GivesPart};
+ghost use Rattle.parse_expr.specs.Lefts.{GivesLeft, as_left};
+ghost use Rattle.parse_expr.specs.Nests.{Nests};
+ghost use Rattle.parse_expr.specs.Tails.{FitsTail, with_tail, bracketed, arguments_some, arguments, colon_ended, member_tail, choice_tail, tail_of, go_on};
+
+use crate::grammar::Grammar;
+use crate::lefts::{ASSIGNMENT, CONDITIONAL, EXPRESSION, Left};
+use crate::roles::{binds, role_of, role_takes};
+use crate::tails::{Tail, assign, call, choice, index, join, list, member, step};
+use c_grammar::{Role, Terminal};
+use c_tokens::Punct;
+use c_tree::Expr;
+use fc_base::Place;
+use parse_tokens::{ParseFault, Tall, Tokens, copy_text, is_tag};
+use sqlite_items::Items;
+use std::alloc::{AllocError, Global};
+
+/// The expression with its tail. It started at `start`, and the tail's first token has the place.
+fn with_tail(
+    alloc: Global,
+    left: Left,
+    tail: Tail,
+    start: Place,
+    place: Place,
+) -> Result<Left, AllocError>
+    requires left { left.height < 2000 }
+    requires tail { FitsTail tail }
+    ensures { IfOk result (λ x. (t : List Lexeme) → as_left x t ≡ with_tail start left.tree left.height tail place t) }
+{
+    match tail {
+        Tail::Call(args) => call(alloc, left, args),
+        Tail::Index(at) => index(alloc, left, at, place),
+        Tail::Member { arrow, name, place } => member(alloc, left, arrow, name, place),
+        Tail::Step(op) => step(alloc, left, op, start),
+        Tail::Choice { yes, no } => choice(alloc, left, yes, no, place),
+        Tail::Assign(op, from) => assign(alloc, left, op, from, place),
+        Tail::Join(op, level, right) => join(alloc, left, op, level, right, place),
+        Tail::List(others) => list(alloc, left, others, start),
+    }
+}
+
+/// `b` or the like behind `.` or `->`.
+fn member_tail(alloc: Global, tokens: &mut Tokens<'_>, arrow: bool) -> Result<Tail, ParseFault>
+    ensures reads { GivesPart (member_tail arrow tokens.old) result tokens.new }
+    ensures low { IfOk result FitsTail }
+{
+    match tokens.next() {
+        Some((terminal, token)) if is_tag(terminal) => Ok(Tail::Member {
+            arrow,
+            name: copy_text(alloc, token)?,
+            place: token.place,
+        }),
+        _ => Err(ParseFault::NoDerivation),
+    }
+}
+
+impl<F: Fn(Global, &mut Tokens<'_>, usize, u8) -> Result<Tall<Expr>, ParseFault>> Grammar<F> {
+    /// One expression of the level of assignments or more, with commas between them, by so many turns at most.
+    fn exprs(&self, tokens: &mut Tokens<'_>, turns: usize) -> Result<Tall<Items<Expr>>, ParseFault>
+        requires { Nests self.now.depth (F.pre self.now.expr) (F.post self.now.expr) }
+        ensures reads { Gives (spec.exprs self.now.depth (spec.expression self.now.depth) turns tokens.old) result tokens.new }
+        ensures low { IfOk result (λ x. x.height ≤ self.now.depth) }
+    {
+        let mut trees = Items::new(self.alloc);
+        let mut height = 0;
+        for _turn in 0..turns {
+            let one = self.sub(tokens, ASSIGNMENT)?;
+            trees.push(one.tree)?;
+            height = height.max(one.height);
+            if !tokens.take_comma() {
+                return Ok(Tall {
+                    tree: trees,
+                    height,
+                });
+            }
+        }
+        Err(ParseFault::NoDerivation)
+    }
+
+    fn arguments_some(&self, tokens: &mut Tokens<'_>) -> Result<Tall<Items<Expr>>, ParseFault>
+        requires { Nests self.now.depth (F.pre self.now.expr) (F.post self.now.expr) }
+        ensures reads { Gives (arguments_some self.now.depth (spec.expression self.now.depth) tokens.old) result tokens.new }
+        ensures low { IfOk result (λ x. x.height ≤ self.now.depth) }
+    {
+        let turns = tokens.left();
+        let args = self.exprs(tokens, turns)?;
+        tokens.expect_right_paren()?;
+        Ok(args)
+    }
+
+    /// `b, c)`
+    fn arguments(&self, tokens: &mut Tokens<'_>) -> Result<Tall<Items<Expr>>, ParseFault>
+        requires { Nests self.now.depth (F.pre self.now.expr) (F.post self.now.expr) }
+        ensures reads { Gives (arguments self.now.depth (spec.expression self.now.depth) tokens.old) result tokens.new }
+        ensures low { IfOk result (λ x. x.height ≤ self.now.depth) }
+    {
+        match tokens.peek() {
+            Some(Terminal::Punct(Punct::RightParen)) => {
+                tokens.next();
+                Ok(Tall {
+                    tree: Items::new(self.alloc),
+                    height: 0,
+                })
+            }
+            _ => self.arguments_some(tokens),
+        }
+    }
+
+    /// `b]`
+    fn bracketed(&self, tokens: &mut Tokens<'_>) -> Result<Tall<Expr>, ParseFault>
+        requires { Nests self.now.depth (F.pre self.now.expr) (F.post self.now.expr) }
+        ensures reads { Gives (bracketed self.now.depth (spec.expression self.now.depth) tokens.old) result tokens.new }
+        ensures low { IfOk result (λ x. x.height ≤ self.now.depth) }
+    {
+        let index = self.sub(tokens, EXPRESSION)?;
+        tokens.expect_right_bracket()?;
+        Ok(index)
+    }
+
+    /// `b :`
+    fn colon_ended(&self, tokens: &mut Tokens<'_>) -> Result<Tall<Expr>, ParseFault>
+        requires { Nests self.now.depth (F.pre self.now.expr) (F.post self.now.expr) }
+        ensures reads { Gives (colon_ended self.now.depth (spec.expression self.now.depth) tokens.old) result tokens.new }
+        ensures low { IfOk result (λ x. x.height ≤ self.now.depth) }
+    {
+        let yes = self.sub(tokens, EXPRESSION)?;
+        tokens.expect_colon()?;
+        Ok(yes)
+    }
+
+    /// `b : c`
+    fn choice_tail(&self, tokens: &mut Tokens<'_>) -> Result<Tail, ParseFault>
+        requires { Nests self.now.depth (F.pre self.now.expr) (F.post self.now.expr) }
+        ensures reads { GivesPart (choice_tail self.now.depth (spec.expression self.now.depth) tokens.old) result tokens.new }
+        ensures low { IfOk result FitsTail }
+    {
+        let yes = self.colon_ended(tokens)?;
+        let no = self.sub(tokens, CONDITIONAL)?;
+        Ok(Tail::Choice { yes, no })
+    }
+
+    /// What stands behind a token of this role.
+    fn tail(&self, tokens: &mut Tokens<'_>, role: Role) -> Result<Tail, ParseFault>
+        requires nests { Nests self.now.depth (F.pre self.now.expr) (F.post self.now.expr) }
+        requires role { spec.role_binds role ≤ 17 }
+        ensures reads { GivesPart (tail_of self.now.depth (spec.expression self.now.depth) role tokens.old) result tokens.new }
+        ensures low { IfOk result FitsTail }
+    {
+        match role {
+            Role::Call => Ok(Tail::Call(self.arguments(tokens)?)),
+            Role::Index => Ok(Tail::Index(self.bracketed(tokens)?)),
+            Role::Member { arrow } => member_tail(self.alloc, tokens, arrow),
+            Role::Step(op) => Ok(Tail::Step(op)),
+            Role::Choice => self.choice_tail(tokens),
+            Role::Assign(op) => Ok(Tail::Assign(op, self.sub(tokens, ASSIGNMENT)?)),
+            Role::Join(op, level) => Ok(Tail::Join(op, level, self.sub(tokens, level)?)),
+            Role::List => {
+                let turns = tokens.left();
+                Ok(Tail::List(self.exprs(tokens, turns)?))
+            }
+            Role::Str | Role::End => Err(ParseFault::NoDerivation),
+        }
+    }
+
+    /// The expression with what stands behind a token of this role and place.
+    fn go_on(
+        &self,
+        tokens: &mut Tokens<'_>,
+        left: Left,
+        start: Place,
+        role: Role,
+        place: Place,
+    ) -> Result<Left, ParseFault>
+        requires nests { Nests self.now.depth (F.pre self.now.expr) (F.post self.now.expr) }
+        requires low { left.height ≤ self.now.depth + 1 }
+        requires role { spec.role_binds role ≤ 17 }
+        ensures { GivesLeft (go_on self.now.depth (spec.expression self.now.depth) start left.level left.tree left.height role place tokens.old) result tokens.new }
+    {
+        if role_takes(role) < left.level {
+            return Err(ParseFault::NoDerivation);
+        }
+        let tail = self.tail(tokens, role)?;
+        Ok(with_tail(self.alloc, left, tail, start, place)?)
+    }
+
+    /// The expression with the next token and what stands behind it.
+    fn next(&self, tokens: &mut Tokens<'_>, left: Left, start: Place) -> Result<Left, ParseFault>
+        requires nests { Nests self.now.depth (F.pre self.now.expr) (F.post self.now.expr) }
+        requires low { left.height ≤ self.now.depth + 1 }
+        ensures { GivesLeft (spec.next_in self.now.depth (spec.expression self.now.depth) start (as_left left tokens.old) tokens.old) result tokens.new }
+    {
+        match tokens.next() {
+            Some((terminal, token)) => {
+                self.go_on(tokens, left, start, role_of(terminal), token.place)
+            }
+            None => Err(ParseFault::NoDerivation),
+        }
+    }
+
+    /// An expression of the level or a tighter one, which has begun so, by so many turns at most.
+    fn climb(
+        &self,
+        tokens: &mut Tokens<'_>,
+        level: u8,
+        start: Place,
+        first: Left,
+        turns: usize,
+    ) -> Result<Tall<Expr>, ParseFault>
+        requires nests { Nests self.now.depth (F.pre self.now.expr) (F.post self.now.expr) }
+        requires low { first.height ≤ self.now.depth + 1 }
+        ensures reads { Gives (spec.climb self.now.depth (spec.expression self.now.depth) turns level start (as_left first tokens.old)) result tokens.new }
+        ensures low { IfOk result (λ x. x.height ≤ self.now.depth + 1) }
+    {
+        let mut left = first;
+        for _turn in 0..turns {
+            if level < binds(tokens) {
+                return Ok(left.finish());
+            }
+            left = self.next(tokens, left, start)?;
+            if left.height > self.depth + 1 {
+                return Err(ParseFault::NoDerivation);
+            }
+        }
+        if level < binds(tokens) {
+            Ok(left.finish())
+        } else {
+            Err(ParseFault::NoDerivation)
+        }
+    }
+
+    /// The same, by as many turns as its height allows.
+    #[tactic(auto, unfolding(c_grammar::specs::Reading::begun))]
+    pub fn begun(
+        &self,
+        tokens: &mut Tokens<'_>,
+        level: u8,
+        start: Place,
+        first: Left,
+    ) -> Result<Tall<Expr>, ParseFault>
+        requires nests { Nests self.now.depth (F.pre self.now.expr) (F.post self.now.expr) }
+        requires low { first.height ≤ self.now.depth + 1 }
+        ensures reads { Gives (spec.begun self.now.depth (spec.expression self.now.depth) level start (Some (as_left first tokens.old))) result tokens.new }
+        ensures low { IfOk result (λ x. x.height ≤ self.now.depth + 1) }
+    {
+        if first.level <= level {
+            self.climb(tokens, level, start, first, self.depth + 1)
+        } else {
+            Err(ParseFault::NoDerivation)
+        }
+    }
+}

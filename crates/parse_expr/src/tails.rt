@@ -1,0 +1,163 @@
+//! What expressions go on with, and the nodes that come of it.
+
+ghost use Rattle.std.specs.Prelude.{◌≡◌, ◌≤◌, ◌<◌, ◌∷◌, suc, max, IfOk};
+ghost use Rattle.c_tree.specs.declared.nodes.ExprKind.TheVariants as e;
+ghost use Rattle.c_grammar.specs.Expressions.{expr};
+
+use crate::lefts::{Left, boxed_pair};
+use c_tree::{AssignOp, BinaryOp, Expr, ExprKind, PostfixOp};
+use fc_base::{Place, Text};
+use parse_tokens::Tall;
+use sqlite_items::{Boxed, Items};
+use std::alloc::{AllocError, Global};
+
+/// What stands behind an expression and makes it one of a looser level.
+#[derive(Drop)]
+pub enum Tail {
+    /// `(b, c)`
+    Call(Tall<Items<Expr>>),
+    /// `[b]`
+    Index(Tall<Expr>),
+    /// `.b` or `->b`, and the place of b.
+    Member {
+        arrow: bool,
+        name: Text,
+        place: Place,
+    },
+    /// `++` or `--`
+    Step(PostfixOp),
+    /// `? b : c`
+    Choice {
+        yes: Tall<Expr>,
+        no: Tall<Expr>,
+    },
+    /// `= b`
+    Assign(AssignOp, Tall<Expr>),
+    /// `+ b`, and the level of b.
+    Join(BinaryOp, u8, Tall<Expr>),
+    /// `, b, c`
+    List(Tall<Items<Expr>>),
+}
+
+/// `a(b, c)` (C11 6.5.2.2).
+pub fn call(alloc: Global, left: Left, args: Tall<Items<Expr>>) -> Result<Left, AllocError>
+    requires left { left.height < 2000 }
+    requires args { args.height < 2000 }
+    ensures { IfOk result (λ x. x ≡ record { level = 1; tree = expr (e.Call left.tree args.tree) left.tree.place; height = suc (max left.height args.height) }) }
+{
+    let place = left.tree.place;
+    let height = left.height.max(args.height) + 1;
+    let callee = Boxed::new(alloc, left.tree)?;
+    let args = args.tree;
+    Ok(Left::new(1, ExprKind::Call { callee, args }, place, height))
+}
+
+/// `a[b]` (C11 6.5.2.1).
+pub fn index(alloc: Global, left: Left, index: Tall<Expr>, place: Place) -> Result<Left, AllocError>
+    requires left { left.height < 2000 }
+    requires index { index.height < 2000 }
+    ensures { IfOk result (λ x. x ≡ record { level = 1; tree = expr (e.Index left.tree index.tree) place; height = suc (max left.height index.height) }) }
+{
+    let height = left.height.max(index.height) + 1;
+    let (base, index) = boxed_pair(alloc, left.tree, index.tree)?;
+    Ok(Left::new(1, ExprKind::Index { base, index }, place, height))
+}
+
+/// `a.b` or `a->b` (C11 6.5.2.3).
+pub fn member(
+    alloc: Global,
+    left: Left,
+    arrow: bool,
+    name: Text,
+    place: Place,
+) -> Result<Left, AllocError>
+    requires { left.height < 2000 }
+    ensures { IfOk result (λ x. x ≡ record { level = 1; tree = expr (e.Member left.tree arrow name) place; height = suc left.height }) }
+{
+    let height = left.height + 1;
+    let base = Boxed::new(alloc, left.tree)?;
+    Ok(Left::new(1, ExprKind::Member { base, arrow, name }, place, height))
+}
+
+/// `a++` or `a--` (C11 6.5.2.4).
+pub fn step(alloc: Global, left: Left, op: PostfixOp, start: Place) -> Result<Left, AllocError>
+    requires { left.height < 2000 }
+    ensures { IfOk result (λ x. x ≡ record { level = 1; tree = expr (e.Postfix op left.tree) start; height = suc left.height }) }
+{
+    let height = left.height + 1;
+    let of = Boxed::new(alloc, left.tree)?;
+    Ok(Left::new(1, ExprKind::Postfix { op, of }, start, height))
+}
+
+/// `a ? b : c` (C11 6.5.15).
+pub fn choice(
+    alloc: Global,
+    left: Left,
+    yes: Tall<Expr>,
+    no: Tall<Expr>,
+    place: Place,
+) -> Result<Left, AllocError>
+    requires left { left.height < 2000 }
+    requires yes { yes.height < 2000 }
+    requires no { no.height < 2000 }
+    ensures { IfOk result (λ x. x ≡ record { level = 14; tree = expr (e.Cond left.tree yes.tree no.tree) place; height = suc (max left.height (max yes.height no.height)) }) }
+{
+    let height = left.height.max(yes.height.max(no.height)) + 1;
+    let test = Boxed::new(alloc, left.tree)?;
+    let (yes, no) = boxed_pair(alloc, yes.tree, no.tree)?;
+    Ok(Left::new(14, ExprKind::Cond { test, yes, no }, place, height))
+}
+
+/// `a = b` (C11 6.5.16).
+pub fn assign(
+    alloc: Global,
+    left: Left,
+    op: AssignOp,
+    from: Tall<Expr>,
+    place: Place,
+) -> Result<Left, AllocError>
+    requires left { left.height < 2000 }
+    requires from { from.height < 2000 }
+    ensures { IfOk result (λ x. x ≡ record { level = 15; tree = expr (e.Assign op left.tree from.tree) place; height = suc (max left.height from.height) }) }
+{
+    let height = left.height.max(from.height) + 1;
+    let (to, from) = boxed_pair(alloc, left.tree, from.tree)?;
+    Ok(Left::new(15, ExprKind::Assign { op, to, from }, place, height))
+}
+
+/// `a + b` (C11 6.5.5 to 6.5.14).
+pub fn join(
+    alloc: Global,
+    left: Left,
+    op: BinaryOp,
+    level: u8,
+    right: Tall<Expr>,
+    place: Place,
+) -> Result<Left, AllocError>
+    requires left { left.height < 2000 }
+    requires right { right.height < 2000 }
+    requires level { level ≤ 16 }
+    ensures { IfOk result (λ x. x ≡ record { level = suc level; tree = expr (e.Binary op left.tree right.tree) place; height = suc (max left.height right.height) }) }
+{
+    let height = left.height.max(right.height) + 1;
+    let (a, b) = boxed_pair(alloc, left.tree, right.tree)?;
+    Ok(Left::new(level + 1, ExprKind::Binary { op, a, b }, place, height))
+}
+
+/// `a, b, c` (C11 6.5.17).
+pub fn list(
+    alloc: Global,
+    left: Left,
+    others: Tall<Items<Expr>>,
+    start: Place,
+) -> Result<Left, AllocError>
+    requires left { left.height < 2000 }
+    requires others { others.height < 2000 }
+    ensures { IfOk result (λ x. x ≡ record { level = 16; tree = expr (e.Comma (left.tree ∷ others.tree)) start; height = suc (max left.height others.height) }) }
+{
+    let height = left.height.max(others.height) + 1;
+    let mut all = Items::new(alloc);
+    all.push(left.tree)?;
+    all.append(others.tree)?;
+    Ok(Left::new(16, ExprKind::Comma(all), start, height))
+}
