@@ -1,0 +1,7 @@
+mod Binds
+mod Lengths
+mod Suffixes
+mod Openings
+mod Knots
+pub mod Lists
+mod Items

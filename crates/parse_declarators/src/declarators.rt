@@ -1,0 +1,322 @@
+//! Declarators (C11 6.7.6).
+
+ghost use Rattle.std.specs.Prelude.{◌≡◌, ◌+◌, ◌-◌, ◌≤◌, ◌<◌, ◌^◌, ◌∷◌, [], suc, max, List, Some, length, IfOk, IsTrue};
+ghost use Rattle.c_grammar.specs.Terminals.{Lexeme};
+ghost use Rattle.c_grammar.specs.Reading.{expression};
+ghost use Rattle.c_grammar.specs.ReadingDeclarators as spec;
+ghost use Rattle.parse_tokens.specs.Gives.{Low};
+ghost use Rattle.parse_declarators.specs.Named.{GivesNamed, HasRoom, as_read};
+ghost use Rattle.parse_declarators.specs.Nests.{Nests};
+ghost use Rattle.parse_declarators.specs.Suffixes.{pointer_at, opening_at, group_begins, suffix_at, name_at, array_at, function_at, pointed, closed, around};
+
+use crate::named::{Named, Nearest};
+use crate::params::Declarators;
+use c_grammar::Terminal;
+use c_tokens::Punct;
+use c_tree::{Declarator, PointerWord};
+use fc_base::Place;
+use parse_expr::{HIGHEST_DECLARATOR, bound};
+use parse_parts::pointer_words;
+use parse_tokens::{ParseFault, Tall, Tokens, copy_text, text_of};
+use sqlite_items::{Boxed, Items};
+use std::alloc::{AllocError, Global};
+
+/// The stars before a direct declarator, with their qualifiers.
+#[derive(Drop)]
+pub struct Pointer {
+    words: Items<PointerWord>,
+    place: Place,
+}
+
+/// What stands before the name of a declarator, or before the parenthesis round a declarator.
+#[derive(Drop)]
+pub struct Opening {
+    pointer: Option<Pointer>,
+    /// Where the direct declarator begins.
+    start: Place,
+}
+
+/// How a declarator goes on.
+#[derive(Clone, Copy, Debug, PartialEq, Eq)]
+pub enum Suffix {
+    /// With a bound in brackets.
+    Array,
+    /// With parameters in parentheses.
+    Function,
+}
+
+/// `* const *`, if it comes next.
+fn take_pointer(alloc: Global, tokens: &mut Tokens<'_>) -> Result<Option<Pointer>, AllocError>
+    ensures reads { IfOk result (λ x. pointer_at tokens.old ≡ (x, tokens.new)) }
+    ensures few { length tokens.old < 2 ^ 63 }
+    ensures on { IfOk result (λ _. length tokens.new ≤ length tokens.old) }
+{
+    match tokens.peek() {
+        Some(Terminal::Punct(Punct::Star)) => {
+            let place = tokens.place();
+            let words = pointer_words(alloc, tokens)?;
+            Ok(Some(Pointer { words, place }))
+        }
+        _ => Ok(None),
+    }
+}
+
+/// What comes before the next name or parenthesis.
+fn take_opening(alloc: Global, tokens: &mut Tokens<'_>) -> Result<Opening, AllocError>
+    ensures reads { IfOk result (λ x. opening_at tokens.old ≡ (x, tokens.new)) }
+    ensures few { length tokens.old < 2 ^ 63 }
+    ensures on { IfOk result (λ _. length tokens.new ≤ length tokens.old) }
+{
+    let pointer = take_pointer(alloc, tokens)?;
+    Ok(Opening {
+        pointer,
+        start: tokens.place(),
+    })
+}
+
+/// Takes the `(` of a declarator in parentheses, if it comes next. Whether it does.
+fn group_begins(tokens: &mut Tokens<'_>) -> bool
+    ensures reads { group_begins tokens.old ≡ (result, tokens.new) }
+    ensures on { length tokens.new ≤ length tokens.old }
+    ensures taken { IsTrue result → length tokens.new < length tokens.old }
+{
+    match tokens.peek() {
+        Some(Terminal::Punct(Punct::LeftParen)) => {
+            tokens.next();
+            true
+        }
+        _ => false,
+    }
+}
+
+/// How the declarator goes on, if it does.
+fn next_suffix(tokens: &Tokens<'_>) -> Option<Suffix>
+    ensures { result ≡ suffix_at tokens.now }
+{
+    match tokens.peek() {
+        Some(Terminal::Punct(Punct::LeftBracket)) => Some(Suffix::Array),
+        Some(Terminal::Punct(Punct::LeftParen)) => Some(Suffix::Function),
+        _ => None,
+    }
+}
+
+/// The name that is declared.
+fn take_name<'a>(alloc: Global, tokens: &mut Tokens<'a>) -> Result<Tall<Named<'a>>, ParseFault>
+    ensures reads { GivesNamed (name_at tokens.old) result tokens.new }
+    ensures low { IfOk result (λ x. x.height ≡ 1) }
+    ensures on { IfOk result (λ _. length tokens.new < length tokens.old) }
+{
+    match tokens.next() {
+        Some((Terminal::Name, token)) => Ok(Tall {
+            tree: Named {
+                tree: Declarator::Name {
+                    name: copy_text(alloc, token)?,
+                    place: token.place,
+                },
+                name: text_of(token),
+                nearest: Nearest::Bare,
+            },
+            height: 1,
+        }),
+        _ => Err(ParseFault::NoDerivation),
+    }
+}
+
+/// The declarator behind its pointer.
+fn pointed<'a>(
+    alloc: Global,
+    pointer: Option<Pointer>,
+    direct: Tall<Named<'a>>,
+) -> Result<Tall<Named<'a>>, AllocError>
+    requires { direct.height < 2 ^ 64 - 1 }
+    ensures reads { IfOk result (λ x. (t : List Lexeme) → as_read x t ≡ pointed pointer (as_read direct.entry t)) }
+    ensures low { IfOk result (λ x. x.height ≤ direct.entry.height + 1) }
+{
+    let Some(Pointer { words, place }) = pointer else {
+        return Ok(direct);
+    };
+    let Tall { tree: of, height } = direct;
+    Ok(Tall {
+        tree: Named {
+            tree: Declarator::Pointer {
+                words,
+                of: Boxed::new(alloc, of.tree)?,
+                place,
+            },
+            name: of.name,
+            nearest: of.nearest.behind(Nearest::Other),
+        },
+        height: height + 1,
+    })
+}
+
+impl<'a, F: Fn(Global, &mut Tokens<'a>, usize) -> Result<Tall<Named<'a>>, ParseFault>> Declarators<
+    F,
+> {
+    /// `[2]`
+    fn array(
+        &self,
+        tokens: &mut Tokens<'a>,
+        start: Place,
+        of: Tall<Named<'a>>,
+    ) -> Result<Tall<Named<'a>>, ParseFault>
+        requires nests { Nests self.now.depth (F.pre self.now.declarator) (F.post self.now.declarator) }
+        requires few { HasRoom of.height tokens.old }
+        ensures reads { GivesNamed (array_at (expression self.now.depth) (spec.declarator self.now.depth) start (as_read of.entry tokens.old) tokens.old) result tokens.new }
+        ensures low { Low (max of.entry.height (self.now.depth + 1)) result tokens.old tokens.new }
+        ensures on { IfOk result (λ _. length tokens.new < length tokens.old) }
+    {
+        tokens.expect_left_bracket()?;
+        let size = bound(self.alloc, tokens, self.depth)?;
+        let Tall { tree: of, height } = of;
+        Ok(Tall {
+            tree: Named {
+                tree: Declarator::Array {
+                    of: Boxed::new(self.alloc, of.tree)?,
+                    bound: size.tree,
+                    place: start,
+                },
+                name: of.name,
+                nearest: of.nearest.behind(Nearest::Other),
+            },
+            height: height.max(size.height) + 1,
+        })
+    }
+
+    /// `(int x, char *y)`
+    fn function(
+        &self,
+        tokens: &mut Tokens<'a>,
+        start: Place,
+        of: Tall<Named<'a>>,
+    ) -> Result<Tall<Named<'a>>, ParseFault>
+        requires nests { Nests self.now.depth (F.pre self.now.declarator) (F.post self.now.declarator) }
+        requires few { HasRoom of.height tokens.old }
+        ensures reads { GivesNamed (function_at (expression self.now.depth) (spec.declarator self.now.depth) start (as_read of.entry tokens.old) tokens.old) result tokens.new }
+        ensures low { Low (max of.entry.height (self.now.depth + 1)) result tokens.old tokens.new }
+        ensures on { IfOk result (λ _. length tokens.new < length tokens.old) }
+    {
+        tokens.expect_left_paren()?;
+        let params = self.params_in(tokens)?;
+        let Tall { tree: of, height } = of;
+        Ok(Tall {
+            tree: Named {
+                tree: Declarator::Function {
+                    of: Boxed::new(self.alloc, of.tree)?,
+                    params: params.tree,
+                    place: start,
+                },
+                name: of.name,
+                nearest: of.nearest.behind(Nearest::Parameters),
+            },
+            height: height.max(params.height) + 1,
+        })
+    }
+
+    /// How a declarator goes on, as `[2][3]`, with the place where it begins.
+    fn suffixes(
+        &self,
+        tokens: &mut Tokens<'a>,
+        start: Place,
+        first: Tall<Named<'a>>,
+    ) -> Result<Tall<Named<'a>>, ParseFault>
+        requires nests { Nests self.now.depth (F.pre self.now.declarator) (F.post self.now.declarator) }
+        requires few { HasRoom first.height tokens.old }
+        ensures reads { GivesNamed (spec.suffixes (expression self.now.depth) (spec.declarator self.now.depth) (length tokens.old) start (as_read first.entry tokens.old)) result tokens.new }
+        ensures low { Low (max first.entry.height (self.now.depth + 1)) result tokens.old tokens.new }
+        ensures on { IfOk result (λ _. length tokens.new ≤ length tokens.old) }
+    {
+        let mut left = first;
+        while let Some(suffix) = next_suffix(tokens) {
+            if left.height >= HIGHEST_DECLARATOR {
+                return Err(ParseFault::NoMemory);
+            }
+            left = match suffix {
+                Suffix::Array => self.array(tokens, start, left)?,
+                Suffix::Function => self.function(tokens, start, left)?,
+            };
+        }
+        Ok(left)
+    }
+
+    /// The declarator of an opening, whose name or parentheses have been read.
+    fn closed(
+        &self,
+        tokens: &mut Tokens<'a>,
+        opening: Opening,
+        first: Tall<Named<'a>>,
+    ) -> Result<Tall<Named<'a>>, ParseFault>
+        requires nests { Nests self.now.depth (F.pre self.now.declarator) (F.post self.now.declarator) }
+        requires few { HasRoom first.height tokens.old }
+        ensures reads { GivesNamed (closed (expression self.now.depth) (spec.declarator self.now.depth) opening (as_read first.entry tokens.old)) result tokens.new }
+        ensures low { Low (max first.entry.height (self.now.depth + 1) + 1) result tokens.old tokens.new }
+        ensures on { IfOk result (λ _. length tokens.new ≤ length tokens.old) }
+    {
+        let direct = self.suffixes(tokens, opening.start, first)?;
+        Ok(pointed(self.alloc, opening.pointer, direct)?)
+    }
+
+    /// The declarator round the inner one, by what stands before each parenthesis, the inmost last.
+    fn around(
+        &self,
+        tokens: &mut Tokens<'a>,
+        outer: Items<Opening>,
+        inner: Tall<Named<'a>>,
+    ) -> Result<Tall<Named<'a>>, ParseFault>
+        requires nests { Nests self.now.depth (F.pre self.now.declarator) (F.post self.now.declarator) }
+        requires few { HasRoom inner.height tokens.old }
+        ensures reads { GivesNamed (around (expression self.now.depth) (spec.declarator self.now.depth) outer (Some (as_read inner.entry tokens.old))) result tokens.new }
+        ensures low { Low (max inner.entry.height (self.now.depth + 1)) result tokens.old tokens.new }
+        ensures on { IfOk result (λ _. length tokens.new ≤ length tokens.old) }
+    {
+        let mut outer = outer;
+        let mut declarator = inner;
+        while let Some(opening) = outer.pop() {
+            tokens.expect_right_paren()?;
+            declarator = self.closed(tokens, opening, declarator)?;
+        }
+        Ok(declarator)
+    }
+
+    /// `*(*x)[2]`: a loop goes in to the name, and another one out again.
+    fn whole(&self, tokens: &mut Tokens<'a>) -> Result<Tall<Named<'a>>, ParseFault>
+        requires { Nests self.now.depth (F.pre self.now.declarator) (F.post self.now.declarator) }
+        ensures reads { GivesNamed (spec.whole (expression self.now.depth) (spec.declarator self.now.depth) (suc (length tokens.old)) tokens.old) result tokens.new }
+        ensures low { Low (self.now.depth + 1) result tokens.old tokens.new }
+        ensures on { IfOk result (λ _. length tokens.new < length tokens.old) }
+        ensures few { length tokens.old < 2 ^ 63 }
+    {
+        let mut outer = Items::new(self.alloc);
+        let mut inmost = take_opening(self.alloc, tokens)?;
+        while group_begins(tokens) {
+            outer.push(inmost)?;
+            inmost = take_opening(self.alloc, tokens)?;
+        }
+        let name = take_name(self.alloc, tokens)?;
+        let inner = self.closed(tokens, inmost, name)?;
+        self.around(tokens, outer, inner)
+    }
+}
+
+/// A declarator, whose parameters and bounds are lower than the depth.
+pub fn declarator<'a>(
+    alloc: Global,
+    tokens: &mut Tokens<'a>,
+    depth: usize,
+) -> Result<Tall<Named<'a>>, ParseFault>
+    requires { depth < 1000 }
+    ensures reads { GivesNamed (spec.declarator depth tokens.old) result tokens.new }
+    ensures low { Low depth result tokens.old tokens.new }
+    ensures on { IfOk result (λ _. length tokens.new < length tokens.old) }
+    ensures few { IfOk result (λ x. x.height ≤ depth + 2 ^ 63) }
+{
+    if depth == 0 {
+        return Err(ParseFault::NoDerivation);
+    }
+    Declarators {
+        alloc,
+        depth: depth - 1,
+        declarator,
+    }
+    .whole(tokens)
+}

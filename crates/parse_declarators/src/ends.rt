@@ -1,0 +1,59 @@
+//! What stands behind an item of a list.
+
+ghost use Rattle.std.specs.Prelude.{◌≡◌, ◌≤◌, ◌<◌, length, IfOk};
+ghost use Rattle.parse_tokens.specs.Gives.{GivesPart};
+ghost use Rattle.parse_declarators.specs.Ends as spec;
+
+use c_grammar::Terminal;
+use c_tokens::Punct;
+use parse_tokens::{ParseFault, Tokens};
+
+/// Takes the `,` or the `)` behind a parameter. Whether it was the last one.
+pub fn params_end(tokens: &mut Tokens<'_>) -> Result<bool, ParseFault>
+    ensures reads { GivesPart (spec.params_end tokens.old) result tokens.new }
+    ensures on { IfOk result (λ _. length tokens.new < length tokens.old) }
+{
+    match tokens.next() {
+        Some((Terminal::Punct(Punct::Comma), _)) => Ok(false),
+        Some((Terminal::Punct(Punct::RightParen), _)) => Ok(true),
+        _ => Err(ParseFault::NoDerivation),
+    }
+}
+
+/// Takes the `,` or the `;` behind a declarator of members. Whether it was the last one.
+pub fn declarators_end(tokens: &mut Tokens<'_>) -> Result<bool, ParseFault>
+    ensures reads { GivesPart (spec.declarators_end tokens.old) result tokens.new }
+    ensures on { IfOk result (λ _. length tokens.new < length tokens.old) }
+{
+    match tokens.next() {
+        Some((Terminal::Punct(Punct::Comma), _)) => Ok(false),
+        Some((Terminal::Punct(Punct::Semicolon), _)) => Ok(true),
+        _ => Err(ParseFault::NoDerivation),
+    }
+}
+
+/// Takes the `}` of a body, if it comes next. Whether it does.
+pub fn body_ends(tokens: &mut Tokens<'_>) -> bool
+    ensures reads { spec.body_ends tokens.old ≡ (result, tokens.new) }
+    ensures on { length tokens.new ≤ length tokens.old }
+{
+    match tokens.peek() {
+        Some(Terminal::Punct(Punct::RightBrace)) => {
+            tokens.next();
+            true
+        }
+        _ => false,
+    }
+}
+
+/// Takes the `,`, the `}` or both behind an enumerator. Whether it was the last one.
+pub fn enumerators_end(tokens: &mut Tokens<'_>) -> Result<bool, ParseFault>
+    ensures reads { GivesPart (spec.enumerators_end tokens.old) result tokens.new }
+    ensures on { IfOk result (λ _. length tokens.new < length tokens.old) }
+{
+    match tokens.next() {
+        Some((Terminal::Punct(Punct::RightBrace), _)) => Ok(true),
+        Some((Terminal::Punct(Punct::Comma), _)) => Ok(body_ends(tokens)),
+        _ => Err(ParseFault::NoDerivation),
+    }
+}
