@@ -1,0 +1,39 @@
+-- What answers in loops share.
+use Rattle.std.proofs.Common.{◌≡◌, ◌≢◌, ◌≤◌, ℕ, zero, suc, max, List, [], ◌∷◌, length, take, Option, None, refl, sym, ap, ◌∙◌, rules, arith}
+use Rattle.std.specs.Prelude.{Result, Ok, Err}
+use Rattle.std.specs.Result.{IsErrAnd}
+use Rattle.std.specs.Ordering.{ord_max, nat_cmp}
+use Rattle.std.proofs.lemmas.Grind.{common_steps}
+use Rattle.c_grammar.specs.Terminals.{Lexeme}
+use Rattle.c_grammar.specs.Reading.{Read}
+use Rattle.parse_tokens.specs.Gives.{Gives, GivesPart}
+use Rattle.parse_tokens.specs.declared.faults.ParseFault.{ParseFault}
+use Rattle.parse_tokens.specs.declared.faults.ParseFault.TheVariants as fault
+use Rattle.parse_tokens.specs.declared.faults.Tall.{Tall}
+use Rattle.parse_decl.specs.Declarations.{GivesAs}
+
+-- what `a.max(b)` gives
+pub highest : (a b : ℕ) → ord_max nat_cmp a b ≡ max a b
+highest a b = first_of (search rules, grind (arith, common_steps))
+
+pub take_all : {A : Type 0} (xs : List A) (i : ℕ) → length xs ≤ i → take i xs ≡ xs
+take_all [] zero low = refl
+take_all [] (suc i) low = refl
+take_all (x ∷ xs) zero low = absurd (omega arith)
+take_all (x ∷ xs) (suc i) low = ap (λ l. x ∷ l) (take_all xs i (omega arith))
+
+-- what `?` returns
+pub err_gives : {A : Type 0} (read : Option (Read A)) (r : Result (Tall A) ParseFault) (new : List Lexeme) (e : ParseFault) →
+    IsErrAnd r (λ f. e ≡ f) → (e ≢ fault.NoMemory → read ≡ None) → Gives read r new
+err_gives read (Ok x) new e same none = absurd same
+err_gives read (Err f) new e same none = λ other. none (λ is. other (sym same ∙ is))
+
+pub err_gives_part : {A : Type 0} (read : Option (A × List Lexeme)) (r : Result A ParseFault) (new : List Lexeme) (e : ParseFault) →
+    IsErrAnd r (λ f. e ≡ f) → (e ≢ fault.NoMemory → read ≡ None) → GivesPart read r new
+err_gives_part read (Ok x) new e same none = absurd same
+err_gives_part read (Err f) new e same none = λ other. none (λ is. other (sym same ∙ is))
+
+pub err_gives_as : {X A : Type 0} (see : X → A) (read : Option (Read A)) (r : Result (Tall X) ParseFault) (new : List Lexeme) (e : ParseFault) →
+    IsErrAnd r (λ f. e ≡ f) → (e ≢ fault.NoMemory → read ≡ None) → GivesAs see read r new
+err_gives_as see read (Ok x) new e same none = absurd same
+err_gives_as see read (Err f) new e same none = λ other. none (λ is. other (sym same ∙ is))

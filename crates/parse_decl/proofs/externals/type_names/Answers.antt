@@ -1,0 +1,26 @@
+use Rattle.std.proofs.Common.{◌≡◌, ◌≢◌, ℕ, false, List, [], ◌∷◌, map, refl, ap, ◌∙◌, arith}
+use Rattle.std.specs.Prelude.{◌==◌, Result, Ok, Err, IfOk}
+use Rattle.std.proofs.lemmas.Bool.Decides.{nat_tests}
+use Rattle.c_grammar.specs.File.{type_names}
+use Rattle.parse_parts.specs.Counts.{tally_of}
+use Rattle.parse_parts.specs.declared.tallies.Tally.{Tally}
+use Rattle.parse_decl.specs.declared.declarations.Declared.{Declared}
+use Rattle.parse_decl.specs.Declarations.{declared_of}
+use Rattle.parse_decl.proofs.externals.type_names.Goals as goal
+
+other_number : (m : ℕ) → m ≢ 0 → (m == 0) ≡ false
+other_number m e = grind (arith, nat_tests)
+
+names_declared : (xs : List Declared) → map (λ (one : Declared). one.name.now) xs ≡ map (λ n. n.name) (map declared_of xs)
+names_declared [] = refl
+names_declared (x ∷ xs) = ap (λ l. x.name.now ∷ l) (names_declared xs)
+
+types_declared : (a : Tally) (xs : List Declared) → a.typedef ≢ 0 → map (λ (one : Declared). one.name.now) xs ≡ type_names (tally_of a) (map declared_of xs)
+types_declared a xs some = rw (other_number a.typedef some) (names_declared xs)
+
+ok_along : {A E : Type 0} (r : Result A E) (x y : A) → x ≡ y → IfOk r (λ z. z ≡ x) → IfOk r (λ z. z ≡ y)
+ok_along (Ok z) x y e is = is ∙ e
+ok_along (Err f) x y e is = is
+
+pub returns-else-tally-eq0 : goal.returns-else-tally-eq0
+returns-else-tally-eq0 c = ok_along _ _ _ (types_declared c.args.tally c.args.declared.now c.if-tally-eq0.false) c.names_of.ensures
