@@ -5,36 +5,54 @@ use Rattle.fc_base.specs.declared.Refusal.{Refusal}
 use Rattle.fc_base.specs.declared.Fault.{Fault}
 use Rattle.fc_base.specs.declared.Fault.TheVariants.{Refused, NoMemory}
 use Rattle.c_tokens.specs.declared.Token.{Token}
+use Rattle.c_tree.specs.declared.externals.FileTree.{FileTree}
 use Rattle.c_lexer.specs.Lexed.{lexed, GivesErr}
 use Rattle.c_expansion.specs.Answers.{Fails}
 use Rattle.c_expansion.specs.Expansion.{Expanded, IsExpanded}
 use Rattle.c_expansion.specs.Moves.{start}
 use Rattle.c_expansion.proofs.ExpansionLaws as expansion
+use Rattle.c_grammar.specs.File.{Derives}
+use Rattle.c_grammar.proofs.Uniqueness.{derives_once, derives_some}
+use Rattle.parse_decl.specs.Externals as parsing
 use Rattle.c_front.specs.declared.forms.Form.{Form}
 use Rattle.c_front.specs.Forms.{IsForm}
-use Rattle.c_front.specs.Front.{Front, unlexed, unexpanded, no_form, some_form, not_this_form}
+use Rattle.c_front.specs.Front.{Front, unlexed, unexpanded, underived, no_form, some_form, not_this_form}
 use Rattle.c_front.specs.Reading.{form_of}
 use Rattle.c_front.proofs.Reading.{form_read, form_found, none_read}
 
--- the outcome of tokens that were preprocessed
+-- the outcome of tokens that were parsed
 abbrev pub by_form : Option Form → Result Form Refusal
 by_form None = Err not_this_form
 by_form (Some form) = Ok form
 
+-- the outcome of tokens that were preprocessed, where this is what they derive
+abbrev after_parsing : List Token → Result FileTree Refusal → Result Form Refusal
+after_parsing tokens (Ok file) = by_form (form_of tokens)
+after_parsing tokens (Err refusal) = Err refusal
+
 abbrev after_expansion : Expanded → Result Form Refusal
-after_expansion (Ok tokens) = by_form (form_of tokens)
+after_expansion (Ok tokens) = after_parsing tokens (derives_some tokens).0
 after_expansion (Err refusal) = Err refusal
+
+-- the tokens derive nothing else
+derives_that : (tokens : List Token) {derived : Result FileTree Refusal} → Derives tokens derived → after_parsing tokens derived ≡ after_expansion (Ok tokens)
+derives_that tokens derives = let d = derives_some tokens in ap (after_parsing tokens) (derives_once tokens _ _ derives d.1)
 
 -- ---- there is an outcome
 
 module _ (level : Level) (source : List ℕ) where
-  pub with_form : {tokens expanded : List Token} (o : Option Form) → form_of expanded ≡ o → lexed source ≡ Ok tokens → IsExpanded level tokens (Ok expanded)
-      → Front level source (by_form o)
-  with_form {expanded = expanded} None e lexes expands = no_form lexes expands (none_read expanded e)
-  with_form {expanded = expanded} (Some form) e lexes expands = let read = form_read expanded form e in some_form lexes expands read.0 read.1
+  pub with_form : {tokens expanded : List Token} {file : FileTree} (o : Option Form) → form_of expanded ≡ o → lexed source ≡ Ok tokens → IsExpanded level tokens (Ok expanded)
+      → Derives expanded (Ok file) → Front level source (by_form o)
+  with_form {expanded = expanded} None e lexes expands derives = no_form lexes expands derives (none_read expanded e)
+  with_form {expanded = expanded} (Some form) e lexes expands derives = let read = form_read expanded form e in some_form lexes expands derives read.0 read.1
+
+  derives_so : {tokens expanded : List Token} (derived : Result FileTree Refusal) → lexed source ≡ Ok tokens → IsExpanded level tokens (Ok expanded) → Derives expanded derived
+      → Front level source (after_parsing expanded derived)
+  derives_so {expanded = expanded} (Ok file) lexes expands derives = with_form (form_of expanded) refl lexes expands derives
+  derives_so (Err refusal) lexes expands derives = underived lexes expands derives
 
   expands_so : {tokens : List Token} (out : Expanded) → lexed source ≡ Ok tokens → IsExpanded level tokens out → Front level source (after_expansion out)
-  expands_so (Ok expanded) lexes expands = with_form (form_of expanded) refl lexes expands
+  expands_so (Ok expanded) lexes expands = let d = derives_some expanded in derives_so d.0 lexes expands d.1
   expands_so (Err refusal) lexes expands = unexpanded lexes expands
 
   pub some : (out : Result Form Refusal) × Front level source out
@@ -55,11 +73,13 @@ module _ (level : Level) (source : List ℕ) where
   comes : {out : Result Form Refusal} → Front level source out → Comes out
   comes (unlexed e) = refused e
   comes (unexpanded e expands) = lexed_so e expands refl
-  comes (no_form {expanded = expanded} e expands none) = lexed_so e expands (go (form_of expanded) refl) where
+  comes (underived {expanded = expanded} e expands derives) = lexed_so e expands (derives_that expanded derives)
+  comes (no_form {expanded = expanded} e expands derives none) = lexed_so e expands (go (form_of expanded) refl ∙ derives_that expanded derives) where
     go : (o : Option Form) → form_of expanded ≡ o → Err not_this_form ≡ by_form (form_of expanded)
     go None is = ap by_form (sym is)
     go (Some form) is = let read = form_read expanded form is in absurd (none form read.0 read.1)
-  comes (some_form {expanded = expanded} {form = form} e expands ok is) = lexed_so e expands (ap by_form (sym (form_found expanded form ok is)))
+  comes (some_form {expanded = expanded} {form = form} e expands derives ok is) =
+      lexed_so e expands (ap by_form (sym (form_found expanded form ok is)) ∙ derives_that expanded derives)
 
   one_of : {a b : Result Form Refusal} → Comes a → Comes b → a ≡ b
   one_of (refused e) (refused f) = cc
@@ -82,7 +102,12 @@ module _ (level : Level) (source : List ℕ) where
   refused_expansion NoMemory lexes fails = tt
   refused_expansion (Refused refusal) lexes fails = unexpanded lexes fails
 
+  pub refused_parsing : {tokens expanded : List Token} (fault : Fault) → lexed source ≡ Ok tokens → IsExpanded level tokens (Ok expanded)
+      → parsing.Answers {X = FileTree} (Err fault) (Derives expanded) → Fails fault (Front level source)
+  refused_parsing NoMemory lexes expands answers = tt
+  refused_parsing (Refused refusal) lexes expands derives = underived lexes expands derives
+
 -- ---- a form is within its bounds
 
 pub form_is : {level : Level} {source : List ℕ} {form : Form} → Front level source (Ok form) → IsForm form
-form_is (some_form lexes expands ok is) = ok
+form_is (some_form lexes expands derives ok is) = ok

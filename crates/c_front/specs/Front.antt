@@ -4,8 +4,10 @@ use Rattle.fc_base.specs.declared.Level.{Level}
 use Rattle.fc_base.specs.declared.Refusal.{Refusal}
 use Rattle.fc_base.specs.declared.Rule.TheVariants.{NotThisForm}
 use Rattle.c_tokens.specs.declared.Token.{Token}
+use Rattle.c_tree.specs.declared.externals.FileTree.{FileTree}
 use Rattle.c_lexer.specs.Lexed.{lexed}
 use Rattle.c_expansion.specs.Expansion.{IsExpanded}
+use Rattle.c_grammar.specs.File.{Derives}
 use Rattle.c_front.specs.declared.forms.Form.{Form}
 use Rattle.c_front.specs.Forms.{IsForm, IsListOf, HaveNoForm}
 
@@ -14,10 +16,14 @@ abbrev pub not_this_form : Refusal
 not_this_form = record { rule = NotThisForm; place = record { line = 1; col = 1 } }
 
 -- Front level source outcome: where `_FORTIFY_SOURCE` is the level. The source is lexed whole, then its tokens are
--- preprocessed whole, then they are read; the phase that refuses first gives the outcome.
+-- preprocessed whole, then what they came to is parsed whole, and last it is read; the phase that refuses first gives
+-- the outcome. The tree plays no further part.
 pub data Front (level : Level) (source : List ℕ) : Result Form Refusal → Type 0 where
   unlexed : {refusal : Refusal} → lexed source ≡ Err refusal → Front level source (Err refusal)
   unexpanded : {tokens : List Token} {refusal : Refusal} → lexed source ≡ Ok tokens → IsExpanded level tokens (Err refusal) → Front level source (Err refusal)
-  no_form : {tokens expanded : List Token} → lexed source ≡ Ok tokens → IsExpanded level tokens (Ok expanded) → HaveNoForm expanded → Front level source (Err not_this_form)
-  some_form : {tokens expanded : List Token} {form : Form} → lexed source ≡ Ok tokens → IsExpanded level tokens (Ok expanded) → IsForm form → IsListOf expanded form
-      → Front level source (Ok form)
+  underived : {tokens expanded : List Token} {refusal : Refusal} → lexed source ≡ Ok tokens → IsExpanded level tokens (Ok expanded) → Derives expanded (Err refusal)
+      → Front level source (Err refusal)
+  no_form : {tokens expanded : List Token} {file : FileTree} → lexed source ≡ Ok tokens → IsExpanded level tokens (Ok expanded) → Derives expanded (Ok file)
+      → HaveNoForm expanded → Front level source (Err not_this_form)
+  some_form : {tokens expanded : List Token} {file : FileTree} {form : Form} → lexed source ≡ Ok tokens → IsExpanded level tokens (Ok expanded) → Derives expanded (Ok file)
+      → IsForm form → IsListOf expanded form → Front level source (Ok form)

@@ -9,6 +9,7 @@ use crate::forms::{Form, read_form};
 use c_lexer::tokens;
 use c_macros::expand;
 use fc_base::{Fault, Level, Place, Refusal, Rule};
+use parse_decl::parse;
 use std::alloc::Global;
 
 /// The refusal of a source that isn't the form.
@@ -25,6 +26,7 @@ pub fn read_source(alloc: Global, source: &[u8], level: Level) -> Result<Form, F
 {
     let lexed = tokens(alloc, source)?;
     let expanded = expand(alloc, &lexed, level)?;
+    parse(alloc, &expanded)?;
     match read_form(&expanded) {
         Some(form) => Ok(form),
         None => Err(NOT_THIS_FORM),

@@ -1,4 +1,4 @@
-//! Sources with their form or refusal, worked out by hand from C11 6.4 and 6.10 and from the rules of the subset.
+//! Sources with their form or refusal, worked out by hand from C11 6.4 to 6.10 and from the rules of the subset.
 
 use crate::read_source;
 use fc_base::{Fault, Level, Place};
@@ -27,7 +27,7 @@ fn shown(alloc: Global, source: &[u8], level: Level) -> Result<String, Fail> {
 
 #[test]
 fn sources_at_level_three(rt: HostRuntime) -> Result<(), Fail> {
-    let rows: [(&[u8], &str); 46] = [
+    let rows: [(&[u8], &str); 48] = [
         // the form, however it is laid out
         (
             b"#include <string.h>\nint main(void) { char b[8]; memset(b, 65, 8); return 3; }\n",
@@ -121,10 +121,6 @@ fn sources_at_level_three(rt: HostRuntime) -> Result<(), Fail> {
             "not-this-form 1:1",
         ),
         (
-            b"#include <string.h>\nint main(void) { char b[8]; memset(b, 65, 8); return 3;",
-            "not-this-form 1:1",
-        ),
-        (
             b"#include <string.h>\nint main(void) { char b[]; memset(b, 65, 8); return 3; }",
             "not-this-form 1:1",
         ),
@@ -177,6 +173,10 @@ fn sources_at_level_three(rt: HostRuntime) -> Result<(), Fail> {
             b"#include <string.h>\nint main(void) { char b[8]; memset(b, 65, 8); return 3ll; }",
             "not-this-form 1:1",
         ),
+        // other declarations, and no token at all
+        (b"int x, *y; char z[3];", "not-this-form 1:1"),
+        (b"/* a */\n#define goto", "not-this-form 1:1"),
+        (b"#if 0\ngoto x;\n#endif\n", "not-this-form 1:1"),
         // what is refused before
         (
             b"#include <string.h>\nint main(void) { char b[08]; memset(b, 65, 8); return 3; }",
@@ -205,6 +205,104 @@ fn sources_at_level_three(rt: HostRuntime) -> Result<(), Fail> {
     ];
     for (source, want) in rows {
         let got = shown(rt.alloc(), source, Level::Three)?;
+        assert_eq!(rt; got.as_str(), want);
+    }
+    Ok(())
+}
+
+/// The whole file is lexed before it is preprocessed, preprocessed before it is parsed, and parsed before it is read.
+#[test]
+fn the_first_phase_that_refuses(rt: HostRuntime) -> Result<(), Fail> {
+    let rows: [(&[u8], &str); 23] = [
+        (b"goto x;\n#error x\n'ab'", "left-out-literal 3:1"),
+        (b"goto x;\n#error x\n", "unknown-directive 2:1"),
+        (b"return 0 }\ngoto x;", "left-out-keyword 2:1"),
+        (b"return 0 }", "syntax 1:1"),
+        // keywords that are left out
+        (b"int main(void) {\n  goto x;\n}\n", "left-out-keyword 2:3"),
+        (
+            b"#define jump goto\nint main(void) { jump x; }",
+            "left-out-keyword 2:18",
+        ),
+        (
+            b"int main(void) { return 0; }\nvolatile int x; float y;",
+            "left-out-keyword 2:1",
+        ),
+        // external declarations without a derivation
+        (b";", "syntax 1:1"),
+        (b"int x", "syntax 1:1"),
+        (b"int x;\nint main(void) { return 0 }", "syntax 2:1"),
+        (b"int x; float_t y; goto_t z;", "syntax 1:8"),
+        (b"typedef int T; T f(T T) { return T; }", "syntax 1:16"),
+        (
+            b"typedef int T; T f(T t) { return t; }",
+            "not-this-form 1:1",
+        ),
+        (b"size_t n;\n#include <string.h>", "syntax 1:1"),
+        (b"#include <string.h>\nsize_t n;", "not-this-form 1:1"),
+        // the names of types that a header brings
+        (
+            b"#include <string.h>\n#include <stdio.h>\n#include <stdlib.h>\nsize_t a; ssize_t b;",
+            "syntax 4:11",
+        ),
+        (b"#include <stdio.h>\nsize_t n;", "not-this-form 1:1"),
+        (b"#include <stdlib.h>\nsize_t n;", "not-this-form 1:1"),
+        (b"#include <strings.h>\nsize_t n;", "syntax 2:1"),
+        (
+            b"#include <unistd.h>\nsize_t a; ssize_t b;",
+            "not-this-form 1:1",
+        ),
+        (
+            b"#include <stdint.h>\nint8_t a; int16_t b; int32_t c; int64_t d; uint8_t e; uint16_t f; uint32_t g; uint64_t h;",
+            "not-this-form 1:1",
+        ),
+        (
+            b"int main(void) {\n#include <string.h>\nreturn 0; }",
+            "syntax 1:1",
+        ),
+        (
+            b"#include <string.h>\nint main(void) { char b[8]; memset(b, 65, 8); return 3;",
+            "syntax 2:1",
+        ),
+    ];
+    for (source, want) in rows {
+        let got = shown(rt.alloc(), source, Level::Three)?;
+        assert_eq!(rt; got.as_str(), want);
+    }
+    Ok(())
+}
+
+/// So many opening brackets between two texts.
+fn opened(alloc: Global, before: &[u8], count: usize, behind: &[u8]) -> Result<Vec<u8>, Fail> {
+    let mut source = Vec::from_slice(alloc, before)?;
+    for _ in 0..count {
+        source.push(b'(')?;
+    }
+    source.extend_from_slice(behind)?;
+    Ok(source)
+}
+
+/// A function that returns 0 in so many brackets.
+fn bracketed(alloc: Global, count: usize) -> Result<Vec<u8>, Fail> {
+    let mut source = opened(alloc, b"int main(void) { return ", count, b"0")?;
+    for _ in 0..count {
+        source.push(b')')?;
+    }
+    source.extend_from_slice(b"; }")?;
+    Ok(source)
+}
+
+#[test]
+fn brackets_at_their_limit(rt: HostRuntime) -> Result<(), Fail> {
+    let alloc = rt.alloc();
+    for (source, want) in [
+        (bracketed(alloc, 199)?, "not-this-form 1:1"),
+        (bracketed(alloc, 200)?, "limit-depth 1:224"),
+        (opened(alloc, b"", 201, b" goto")?, "left-out-keyword 1:203"),
+        (opened(alloc, b";", 201, b"")?, "limit-depth 1:202"),
+        (opened(alloc, b";", 200, b"")?, "syntax 1:1"),
+    ] {
+        let got = shown(alloc, source.as_slice(), Level::Three)?;
         assert_eq!(rt; got.as_str(), want);
     }
     Ok(())

@@ -134,7 +134,7 @@ fn forms_run_to_their_ends(rt: HostRuntime) -> Result<(), Fail> {
 #[test]
 fn refusals_keep_nothing(rt: HostRuntime) -> Result<(), Fail> {
     let alloc = rt.alloc();
-    let rows: [(&[u8], Rule, u32, u32); 8] = [
+    let rows: [(&[u8], Rule, u32, u32); 10] = [
         (b"", Rule::NotThisForm, 1, 1),
         (b"int main(void) { return 0; }", Rule::NotThisForm, 1, 1),
         (b"'\\400'", Rule::BadEscape, 1, 2),
@@ -143,6 +143,13 @@ fn refusals_keep_nothing(rt: HostRuntime) -> Result<(), Fail> {
         (b"#define f(x) x x\nf(1, 2)", Rule::MacroArguments, 2, 1),
         (b"int x;\n#if 1", Rule::OpenConditional, 2, 1),
         (b"#define a 1\n#define a 2\n#error", Rule::Redefined, 2, 1),
+        (
+            b"int main(void) {\n  goto x;\n}",
+            Rule::LeftOutKeyword,
+            2,
+            3,
+        ),
+        (b"int x;\nint main(void) { return 0 }", Rule::Syntax, 2, 1),
     ];
     for (source, rule, line, col) in rows {
         check_source(&rt, alloc, source, refused(rule, line, col), b"", false)?;
