@@ -9,7 +9,7 @@ use Rattle.c_tokens.specs.declared.TokenKind.{TokenKind}
 use Rattle.c_conditions.specs.Conditions.{Decides}
 use Rattle.c_conditions.proofs.Decisions as decisions
 use Rattle.c_expansion.specs.declared.words.Group.{Group}
-use Rattle.c_expansion.specs.Answers.{Answers}
+use Rattle.fc_base.specs.Answers.{Answers}
 use Rattle.c_expansion.specs.Macros.{Macros, Item, items}
 use Rattle.c_expansion.specs.Replacement.{Outcome, Expands}
 use Rattle.c_expansion.specs.Lines.{front, rest_of, text_or_directive, is_directive, in_text, in_line}

@@ -12,7 +12,7 @@ use Rattle.c_tokens.specs.declared.TokenKind.{TokenKind}
 use Rattle.c_tokens.specs.declared.TokenKind.TheVariants as kind
 use Rattle.c_tokens.specs.declared.Token.{Token}
 use Rattle.c_tokens.specs.Pieces.{IsLexedKind}
-use Rattle.c_expansion.specs.Answers.{Answers}
+use Rattle.fc_base.specs.Answers.{Answers}
 use Rattle.c_expansion.specs.Macros.{Name, Item, Piece, plain, parameter, Meaning, Macros, no_macros}
 use Rattle.c_expansion.specs.Definitions.{literal, null, end_of_file, header_macros, fortify_source}
 use Rattle.c_expansion.specs.Replacement.{Expands}

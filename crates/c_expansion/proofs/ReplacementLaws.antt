@@ -5,7 +5,7 @@ use Rattle.fc_base.specs.declared.Place.{Place}
 use Rattle.fc_base.specs.declared.Refusal.{Refusal}
 use Rattle.fc_base.specs.declared.Fault.{Fault}
 use Rattle.fc_base.specs.declared.Fault.TheVariants.{Refused, NoMemory}
-use Rattle.c_expansion.specs.Answers.{Answers}
+use Rattle.fc_base.specs.Answers.{Answers}
 use Rattle.c_tokens.specs.Tokens.{token_limit}
 use Rattle.c_expansion.specs.Macros.{HideSet, Item, Piece, Macros, Argument, written}
 use Rattle.c_expansion.specs.Turns.{Turn, becomes}

@@ -1,4 +1,3 @@
-pub mod Answers
 pub mod Macros
 pub mod Turns
 pub mod Replacement

@@ -7,13 +7,12 @@ use Rattle.fc_base.specs.declared.Fault.TheVariants.{Refused, NoMemory}
 use Rattle.c_tokens.specs.declared.Token.{Token}
 use Rattle.c_tree.specs.declared.externals.FileTree.{FileTree}
 use Rattle.c_lexer.specs.Lexed.{lexed, GivesErr}
-use Rattle.c_expansion.specs.Answers.{Fails}
+use Rattle.fc_base.specs.Answers.{Fails}
 use Rattle.c_expansion.specs.Expansion.{Expanded, IsExpanded}
 use Rattle.c_expansion.specs.Moves.{start}
 use Rattle.c_expansion.proofs.ExpansionLaws as expansion
 use Rattle.c_grammar.specs.File.{Derives}
 use Rattle.c_grammar.proofs.Uniqueness.{derives_once, derives_some}
-use Rattle.parse_decl.specs.Externals as parsing
 use Rattle.c_front.specs.declared.forms.Form.{Form}
 use Rattle.c_front.specs.Forms.{IsForm}
 use Rattle.c_front.specs.Front.{Front, unlexed, unexpanded, underived, no_form, some_form, not_this_form}
@@ -103,7 +102,7 @@ module _ (level : Level) (source : List ℕ) where
   refused_expansion (Refused refusal) lexes fails = unexpanded lexes fails
 
   pub refused_parsing : {tokens expanded : List Token} (fault : Fault) → lexed source ≡ Ok tokens → IsExpanded level tokens (Ok expanded)
-      → parsing.Answers {X = FileTree} (Err fault) (Derives expanded) → Fails fault (Front level source)
+      → Fails fault (Derives expanded) → Fails fault (Front level source)
   refused_parsing NoMemory lexes expands answers = tt
   refused_parsing (Refused refusal) lexes expands derives = underived lexes expands derives
 

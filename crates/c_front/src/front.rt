@@ -1,7 +1,7 @@
 //! The phases in their order.
 
 ghost use Rattle.std.specs.Prelude.{◌<◌, length, IfOk};
-ghost use Rattle.c_expansion.specs.Answers.{Answers};
+ghost use Rattle.fc_base.specs.Answers.{Answers};
 ghost use Rattle.c_front.specs.Forms.{IsForm};
 ghost use Rattle.c_front.specs.Front.{Front};
 
@@ -24,8 +24,10 @@ pub fn read_source(alloc: Global, source: &[u8], level: Level) -> Result<Form, F
     ensures is { Answers (λ form. form) result (Front level source.now) }
     ensures form { IfOk result (λ form. IsForm form) }
 {
-    let lexed = tokens(alloc, source)?;
-    let expanded = expand(alloc, &lexed, level)?;
+    let expanded = {
+        let lexed = tokens(alloc, source)?;
+        expand(alloc, &lexed, level)?
+    };
     parse(alloc, &expanded)?;
     match read_form(&expanded) {
         Some(form) => Ok(form),

@@ -25,247 +25,249 @@ fn shown(alloc: Global, source: &[u8], level: Level) -> Result<String, Fail> {
     Ok(out)
 }
 
+const AT_LEVEL_THREE: &[(&[u8], &str)] = &[
+    // the form, however it is laid out
+    (
+        b"#include <string.h>\nint main(void) { char b[8]; memset(b, 65, 8); return 3; }\n",
+        "8 65 8 3 2:29",
+    ),
+    (
+        b"#include <string.h>\nint main(void) { char b[1]; memset(b, 255, 9); return 255; }",
+        "1 255 9 255 2:29",
+    ),
+    (
+        b"#include <string.h>\nint main(void){char b[4096];memset(b,0,65535);return 0;}",
+        "4096 0 65535 0 2:29",
+    ),
+    (
+        b"#include <string.h>\nint main(void) { char  b[8]; memset(b, 65, 8); return 3; }",
+        "8 65 8 3 2:30",
+    ),
+    (
+        b"\n\n#include<string.h>\n\tint\nmain ( void\n) { char b [ 8 ] ;\nmemset ( b , 65 , 8 ) ; return 3 ; }\n\n",
+        "8 65 8 3 7:1",
+    ),
+    (
+        b"#inc\\\nlude <string.h>\nint main(void) { char b[1\\\n6]; mem\\\nset(b, 65, 8); return 3; }",
+        "16 65 8 3 4:5",
+    ),
+    (
+        b"/* a */#include <string.h> // b\nint main(void) { char b[8]; /*\n*/memset(b, 65, 8); return 3; }//",
+        "8 65 8 3 3:3",
+    ),
+    (
+        b"#include <string.h>\nint main(void) { char b[8]; memset(b, 0x0, 00); return 000; }",
+        "8 0 0 0 2:29",
+    ),
+    // macros that come to it, and directives
+    (
+        b"#include <string.h>\n#define SIZE 8\n#define SET memset(b, 65, SIZE)\nint main(void) { char b[SIZE]; SET; return 3; }",
+        "8 65 8 3 4:32",
+    ),
+    (
+        b"#include <string.h>\n#define CALL(f, n) f(b, 65, n)\nint main(void) { char b[8]; CALL(memset, 8); return 3; }",
+        "8 65 8 3 3:34",
+    ),
+    (
+        b"#include <string.h>\n#include <string.h>\nint main(void) { char b[8]; memset(b, 65, 8); return 3; }",
+        "8 65 8 3 3:29",
+    ),
+    (
+        b"#include <string.h>\nint main(void) { char b[8]; memset(b, 65, 8); return _FORTIFY_SOURCE; }",
+        "8 65 8 3 2:29",
+    ),
+    (
+        b"#include <string.h>\nint main(void) { char b[8]; memset(b, 65,\n#if _FORTIFY_SOURCE == 3\n8\n#else\n9\n#endif\n); return 3; }",
+        "8 65 8 3 2:29",
+    ),
+    (
+        b"#if 0\n#include <stdio.h>\n#endif\n#include <string.h>\n#\nint main(void) { char b[8]; memset(b, 65, 8); return 3; }",
+        "8 65 8 3 6:29",
+    ),
+    // other tokens
+    (b"", "not-this-form 1:1"),
+    (
+        b"int main(void) { char b[8]; memset(b, 65, 8); return 3; }",
+        "not-this-form 1:1",
+    ),
+    (
+        b"#include <strings.h>\nint main(void) { char b[8]; memset(b, 65, 8); return 3; }",
+        "not-this-form 1:1",
+    ),
+    (
+        b"#include <string.h>\n#include <stddef.h>\nint main(void) { char b[8]; memset(b, 65, 8); return 3; }",
+        "not-this-form 1:1",
+    ),
+    (
+        b"int main(void) { char b[8]; memset(b, 65, 8); return 3; }\n#include <string.h>\n",
+        "not-this-form 1:1",
+    ),
+    (
+        b"#include <string.h>\nint main() { char b[8]; memset(b, 65, 8); return 3; }",
+        "not-this-form 1:1",
+    ),
+    (
+        b"#include <string.h>\nint main(void) { char b[8]; memset(c, 65, 8); return 3; }",
+        "not-this-form 1:1",
+    ),
+    (
+        b"#include <string.h>\nint main(void) { char b[8]; memcpy(b, 65, 8); return 3; }",
+        "not-this-form 1:1",
+    ),
+    (
+        b"#include <string.h>\nint main(void) { char b[8]; memset(b, 65, 8); return 3;; }",
+        "not-this-form 1:1",
+    ),
+    (
+        b"#include <string.h>\nint main(void) { char b[]; memset(b, 65, 8); return 3; }",
+        "not-this-form 1:1",
+    ),
+    (
+        b"#include <string.h>\nint main(void) { char b[8]; memset(b, 'A', 8); return 3; }",
+        "not-this-form 1:1",
+    ),
+    (
+        b"#include <string.h>\nint main(void) { char b[8]; memset(b, +65, 8); return 3; }",
+        "not-this-form 1:1",
+    ),
+    // other numbers
+    (
+        b"#include <string.h>\nint main(void) { char b[0]; memset(b, 65, 8); return 3; }",
+        "not-this-form 1:1",
+    ),
+    (
+        b"#include <string.h>\nint main(void) { char b[4097]; memset(b, 65, 8); return 3; }",
+        "not-this-form 1:1",
+    ),
+    (
+        b"#include <string.h>\nint main(void) { char b[8]; memset(b, 256, 8); return 3; }",
+        "not-this-form 1:1",
+    ),
+    (
+        b"#include <string.h>\nint main(void) { char b[8]; memset(b, 65, 65536); return 3; }",
+        "not-this-form 1:1",
+    ),
+    (
+        b"#include <string.h>\nint main(void) { char b[8]; memset(b, 65, 4294967304); return 3; }",
+        "not-this-form 1:1",
+    ),
+    (
+        b"#include <string.h>\nint main(void) { char b[8]; memset(b, 65, 8); return 256; }",
+        "not-this-form 1:1",
+    ),
+    (
+        b"#include <string.h>\nint main(void) { char b[0x8]; memset(b, 65, 8); return 3; }",
+        "not-this-form 1:1",
+    ),
+    (
+        b"#include <string.h>\nint main(void) { char b[8]; memset(b, 0101, 8); return 3; }",
+        "not-this-form 1:1",
+    ),
+    (
+        b"#include <string.h>\nint main(void) { char b[8]; memset(b, 65, 8u); return 3; }",
+        "not-this-form 1:1",
+    ),
+    (
+        b"#include <string.h>\nint main(void) { char b[8]; memset(b, 65, 8); return 3ll; }",
+        "not-this-form 1:1",
+    ),
+    // other declarations, and no token at all
+    (b"int x, *y; char z[3];", "not-this-form 1:1"),
+    (b"/* a */\n#define goto", "not-this-form 1:1"),
+    (b"#if 0\ngoto x;\n#endif\n", "not-this-form 1:1"),
+    // what is refused before
+    (
+        b"#include <string.h>\nint main(void) { char b[08]; memset(b, 65, 8); return 3; }",
+        "left-out-literal 2:25",
+    ),
+    (
+        b"#include <string.h>\r\nint main(void) { char b[8]; memset(b, 65, 8); return 3; }",
+        "bad-byte 1:20",
+    ),
+    (b"\xff\xfe", "bad-byte 1:1"),
+    (b"int x; '\\400'", "bad-escape 1:9"),
+    (
+        b"#include \"string.h\"\nint main(void) { char b[8]; memset(b, 65, 8); return 3; }",
+        "unknown-header 1:1",
+    ),
+    (
+        b"#include <string.h>\n#define memset(a) a\nint main(void) { char b[8]; memset(b, 65, 8); return 3; }",
+        "macro-arguments 3:29",
+    ),
+    (
+        b"#if 1\n#include <string.h>\nint main(void) { char b[8]; memset(b, 65, 8); return 3; }",
+        "open-conditional 1:1",
+    ),
+    (b"#error x\nint x;", "unknown-directive 1:1"),
+    (b"#error x\n\"a\n", "open-text 2:1"),
+];
+
 #[test]
 fn sources_at_level_three(rt: HostRuntime) -> Result<(), Fail> {
-    let rows: [(&[u8], &str); 48] = [
-        // the form, however it is laid out
-        (
-            b"#include <string.h>\nint main(void) { char b[8]; memset(b, 65, 8); return 3; }\n",
-            "8 65 8 3 2:29",
-        ),
-        (
-            b"#include <string.h>\nint main(void) { char b[1]; memset(b, 255, 9); return 255; }",
-            "1 255 9 255 2:29",
-        ),
-        (
-            b"#include <string.h>\nint main(void){char b[4096];memset(b,0,65535);return 0;}",
-            "4096 0 65535 0 2:29",
-        ),
-        (
-            b"#include <string.h>\nint main(void) { char  b[8]; memset(b, 65, 8); return 3; }",
-            "8 65 8 3 2:30",
-        ),
-        (
-            b"\n\n#include<string.h>\n\tint\nmain ( void\n) { char b [ 8 ] ;\nmemset ( b , 65 , 8 ) ; return 3 ; }\n\n",
-            "8 65 8 3 7:1",
-        ),
-        (
-            b"#inc\\\nlude <string.h>\nint main(void) { char b[1\\\n6]; mem\\\nset(b, 65, 8); return 3; }",
-            "16 65 8 3 4:5",
-        ),
-        (
-            b"/* a */#include <string.h> // b\nint main(void) { char b[8]; /*\n*/memset(b, 65, 8); return 3; }//",
-            "8 65 8 3 3:3",
-        ),
-        (
-            b"#include <string.h>\nint main(void) { char b[8]; memset(b, 0x0, 00); return 000; }",
-            "8 0 0 0 2:29",
-        ),
-        // macros that come to it, and directives
-        (
-            b"#include <string.h>\n#define SIZE 8\n#define SET memset(b, 65, SIZE)\nint main(void) { char b[SIZE]; SET; return 3; }",
-            "8 65 8 3 4:32",
-        ),
-        (
-            b"#include <string.h>\n#define CALL(f, n) f(b, 65, n)\nint main(void) { char b[8]; CALL(memset, 8); return 3; }",
-            "8 65 8 3 3:34",
-        ),
-        (
-            b"#include <string.h>\n#include <string.h>\nint main(void) { char b[8]; memset(b, 65, 8); return 3; }",
-            "8 65 8 3 3:29",
-        ),
-        (
-            b"#include <string.h>\nint main(void) { char b[8]; memset(b, 65, 8); return _FORTIFY_SOURCE; }",
-            "8 65 8 3 2:29",
-        ),
-        (
-            b"#include <string.h>\nint main(void) { char b[8]; memset(b, 65,\n#if _FORTIFY_SOURCE == 3\n8\n#else\n9\n#endif\n); return 3; }",
-            "8 65 8 3 2:29",
-        ),
-        (
-            b"#if 0\n#include <stdio.h>\n#endif\n#include <string.h>\n#\nint main(void) { char b[8]; memset(b, 65, 8); return 3; }",
-            "8 65 8 3 6:29",
-        ),
-        // other tokens
-        (b"", "not-this-form 1:1"),
-        (
-            b"int main(void) { char b[8]; memset(b, 65, 8); return 3; }",
-            "not-this-form 1:1",
-        ),
-        (
-            b"#include <strings.h>\nint main(void) { char b[8]; memset(b, 65, 8); return 3; }",
-            "not-this-form 1:1",
-        ),
-        (
-            b"#include <string.h>\n#include <stddef.h>\nint main(void) { char b[8]; memset(b, 65, 8); return 3; }",
-            "not-this-form 1:1",
-        ),
-        (
-            b"int main(void) { char b[8]; memset(b, 65, 8); return 3; }\n#include <string.h>\n",
-            "not-this-form 1:1",
-        ),
-        (
-            b"#include <string.h>\nint main() { char b[8]; memset(b, 65, 8); return 3; }",
-            "not-this-form 1:1",
-        ),
-        (
-            b"#include <string.h>\nint main(void) { char b[8]; memset(c, 65, 8); return 3; }",
-            "not-this-form 1:1",
-        ),
-        (
-            b"#include <string.h>\nint main(void) { char b[8]; memcpy(b, 65, 8); return 3; }",
-            "not-this-form 1:1",
-        ),
-        (
-            b"#include <string.h>\nint main(void) { char b[8]; memset(b, 65, 8); return 3;; }",
-            "not-this-form 1:1",
-        ),
-        (
-            b"#include <string.h>\nint main(void) { char b[]; memset(b, 65, 8); return 3; }",
-            "not-this-form 1:1",
-        ),
-        (
-            b"#include <string.h>\nint main(void) { char b[8]; memset(b, 'A', 8); return 3; }",
-            "not-this-form 1:1",
-        ),
-        (
-            b"#include <string.h>\nint main(void) { char b[8]; memset(b, +65, 8); return 3; }",
-            "not-this-form 1:1",
-        ),
-        // other numbers
-        (
-            b"#include <string.h>\nint main(void) { char b[0]; memset(b, 65, 8); return 3; }",
-            "not-this-form 1:1",
-        ),
-        (
-            b"#include <string.h>\nint main(void) { char b[4097]; memset(b, 65, 8); return 3; }",
-            "not-this-form 1:1",
-        ),
-        (
-            b"#include <string.h>\nint main(void) { char b[8]; memset(b, 256, 8); return 3; }",
-            "not-this-form 1:1",
-        ),
-        (
-            b"#include <string.h>\nint main(void) { char b[8]; memset(b, 65, 65536); return 3; }",
-            "not-this-form 1:1",
-        ),
-        (
-            b"#include <string.h>\nint main(void) { char b[8]; memset(b, 65, 4294967304); return 3; }",
-            "not-this-form 1:1",
-        ),
-        (
-            b"#include <string.h>\nint main(void) { char b[8]; memset(b, 65, 8); return 256; }",
-            "not-this-form 1:1",
-        ),
-        (
-            b"#include <string.h>\nint main(void) { char b[0x8]; memset(b, 65, 8); return 3; }",
-            "not-this-form 1:1",
-        ),
-        (
-            b"#include <string.h>\nint main(void) { char b[8]; memset(b, 0101, 8); return 3; }",
-            "not-this-form 1:1",
-        ),
-        (
-            b"#include <string.h>\nint main(void) { char b[8]; memset(b, 65, 8u); return 3; }",
-            "not-this-form 1:1",
-        ),
-        (
-            b"#include <string.h>\nint main(void) { char b[8]; memset(b, 65, 8); return 3ll; }",
-            "not-this-form 1:1",
-        ),
-        // other declarations, and no token at all
-        (b"int x, *y; char z[3];", "not-this-form 1:1"),
-        (b"/* a */\n#define goto", "not-this-form 1:1"),
-        (b"#if 0\ngoto x;\n#endif\n", "not-this-form 1:1"),
-        // what is refused before
-        (
-            b"#include <string.h>\nint main(void) { char b[08]; memset(b, 65, 8); return 3; }",
-            "left-out-literal 2:25",
-        ),
-        (
-            b"#include <string.h>\r\nint main(void) { char b[8]; memset(b, 65, 8); return 3; }",
-            "bad-byte 1:20",
-        ),
-        (b"\xff\xfe", "bad-byte 1:1"),
-        (b"int x; '\\400'", "bad-escape 1:9"),
-        (
-            b"#include \"string.h\"\nint main(void) { char b[8]; memset(b, 65, 8); return 3; }",
-            "unknown-header 1:1",
-        ),
-        (
-            b"#include <string.h>\n#define memset(a) a\nint main(void) { char b[8]; memset(b, 65, 8); return 3; }",
-            "macro-arguments 3:29",
-        ),
-        (
-            b"#if 1\n#include <string.h>\nint main(void) { char b[8]; memset(b, 65, 8); return 3; }",
-            "open-conditional 1:1",
-        ),
-        (b"#error x\nint x;", "unknown-directive 1:1"),
-        (b"#error x\n\"a\n", "open-text 2:1"),
-    ];
-    for (source, want) in rows {
+    for &(source, want) in AT_LEVEL_THREE {
         let got = shown(rt.alloc(), source, Level::Three)?;
         assert_eq!(rt; got.as_str(), want);
     }
     Ok(())
 }
 
+const REFUSED: &[(&[u8], &str)] = &[
+    (b"goto x;\n#error x\n'ab'", "left-out-literal 3:1"),
+    (b"goto x;\n#error x\n", "unknown-directive 2:1"),
+    (b"return 0 }\ngoto x;", "left-out-keyword 2:1"),
+    (b"return 0 }", "syntax 1:1"),
+    // keywords that are left out
+    (b"int main(void) {\n  goto x;\n}\n", "left-out-keyword 2:3"),
+    (
+        b"#define jump goto\nint main(void) { jump x; }",
+        "left-out-keyword 2:18",
+    ),
+    (
+        b"int main(void) { return 0; }\nvolatile int x; float y;",
+        "left-out-keyword 2:1",
+    ),
+    // external declarations without a derivation
+    (b";", "syntax 1:1"),
+    (b"int x", "syntax 1:1"),
+    (b"int x;\nint main(void) { return 0 }", "syntax 2:1"),
+    (b"int x; float_t y; goto_t z;", "syntax 1:8"),
+    (b"typedef int T; T f(T T) { return T; }", "syntax 1:16"),
+    (
+        b"typedef int T; T f(T t) { return t; }",
+        "not-this-form 1:1",
+    ),
+    (b"size_t n;\n#include <string.h>", "syntax 1:1"),
+    (b"#include <string.h>\nsize_t n;", "not-this-form 1:1"),
+    // the names of types that a header brings
+    (
+        b"#include <string.h>\n#include <stdio.h>\n#include <stdlib.h>\nsize_t a; ssize_t b;",
+        "syntax 4:11",
+    ),
+    (b"#include <stdio.h>\nsize_t n;", "not-this-form 1:1"),
+    (b"#include <stdlib.h>\nsize_t n;", "not-this-form 1:1"),
+    (b"#include <strings.h>\nsize_t n;", "syntax 2:1"),
+    (
+        b"#include <unistd.h>\nsize_t a; ssize_t b;",
+        "not-this-form 1:1",
+    ),
+    (
+        b"#include <stdint.h>\nint8_t a; int16_t b; int32_t c; int64_t d; uint8_t e; uint16_t f; uint32_t g; uint64_t h;",
+        "not-this-form 1:1",
+    ),
+    (
+        b"int main(void) {\n#include <string.h>\nreturn 0; }",
+        "syntax 1:1",
+    ),
+    (
+        b"#include <string.h>\nint main(void) { char b[8]; memset(b, 65, 8); return 3;",
+        "syntax 2:1",
+    ),
+];
+
 /// The whole file is lexed before it is preprocessed, preprocessed before it is parsed, and parsed before it is read.
 #[test]
 fn the_first_phase_that_refuses(rt: HostRuntime) -> Result<(), Fail> {
-    let rows: [(&[u8], &str); 23] = [
-        (b"goto x;\n#error x\n'ab'", "left-out-literal 3:1"),
-        (b"goto x;\n#error x\n", "unknown-directive 2:1"),
-        (b"return 0 }\ngoto x;", "left-out-keyword 2:1"),
-        (b"return 0 }", "syntax 1:1"),
-        // keywords that are left out
-        (b"int main(void) {\n  goto x;\n}\n", "left-out-keyword 2:3"),
-        (
-            b"#define jump goto\nint main(void) { jump x; }",
-            "left-out-keyword 2:18",
-        ),
-        (
-            b"int main(void) { return 0; }\nvolatile int x; float y;",
-            "left-out-keyword 2:1",
-        ),
-        // external declarations without a derivation
-        (b";", "syntax 1:1"),
-        (b"int x", "syntax 1:1"),
-        (b"int x;\nint main(void) { return 0 }", "syntax 2:1"),
-        (b"int x; float_t y; goto_t z;", "syntax 1:8"),
-        (b"typedef int T; T f(T T) { return T; }", "syntax 1:16"),
-        (
-            b"typedef int T; T f(T t) { return t; }",
-            "not-this-form 1:1",
-        ),
-        (b"size_t n;\n#include <string.h>", "syntax 1:1"),
-        (b"#include <string.h>\nsize_t n;", "not-this-form 1:1"),
-        // the names of types that a header brings
-        (
-            b"#include <string.h>\n#include <stdio.h>\n#include <stdlib.h>\nsize_t a; ssize_t b;",
-            "syntax 4:11",
-        ),
-        (b"#include <stdio.h>\nsize_t n;", "not-this-form 1:1"),
-        (b"#include <stdlib.h>\nsize_t n;", "not-this-form 1:1"),
-        (b"#include <strings.h>\nsize_t n;", "syntax 2:1"),
-        (
-            b"#include <unistd.h>\nsize_t a; ssize_t b;",
-            "not-this-form 1:1",
-        ),
-        (
-            b"#include <stdint.h>\nint8_t a; int16_t b; int32_t c; int64_t d; uint8_t e; uint16_t f; uint32_t g; uint64_t h;",
-            "not-this-form 1:1",
-        ),
-        (
-            b"int main(void) {\n#include <string.h>\nreturn 0; }",
-            "syntax 1:1",
-        ),
-        (
-            b"#include <string.h>\nint main(void) { char b[8]; memset(b, 65, 8); return 3;",
-            "syntax 2:1",
-        ),
-    ];
-    for (source, want) in rows {
+    for &(source, want) in REFUSED {
         let got = shown(rt.alloc(), source, Level::Three)?;
         assert_eq!(rt; got.as_str(), want);
     }
@@ -308,19 +310,20 @@ fn brackets_at_their_limit(rt: HostRuntime) -> Result<(), Fail> {
     Ok(())
 }
 
+const AT_LEVEL_ZERO: &[(&[u8], &str)] = &[
+    (
+        b"#include <string.h>\nint main(void) { char b[8]; memset(b, 65, 8); return _FORTIFY_SOURCE; }",
+        "8 65 8 0 2:29",
+    ),
+    (
+        b"#include <string.h>\nint main(void) { char b[8]; memset(b, 65,\n#if _FORTIFY_SOURCE == 3\n8\n#else\n9\n#endif\n); return 3; }",
+        "8 65 9 3 2:29",
+    ),
+];
+
 #[test]
 fn sources_at_level_zero(rt: HostRuntime) -> Result<(), Fail> {
-    let rows: [(&[u8], &str); 2] = [
-        (
-            b"#include <string.h>\nint main(void) { char b[8]; memset(b, 65, 8); return _FORTIFY_SOURCE; }",
-            "8 65 8 0 2:29",
-        ),
-        (
-            b"#include <string.h>\nint main(void) { char b[8]; memset(b, 65,\n#if _FORTIFY_SOURCE == 3\n8\n#else\n9\n#endif\n); return 3; }",
-            "8 65 9 3 2:29",
-        ),
-    ];
-    for (source, want) in rows {
+    for &(source, want) in AT_LEVEL_ZERO {
         let got = shown(rt.alloc(), source, Level::Zero)?;
         assert_eq!(rt; got.as_str(), want);
     }

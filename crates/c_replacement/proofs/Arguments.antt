@@ -12,7 +12,7 @@ use Rattle.c_replacement.specs.declared.items.Item.{Item as Held}
 use Rattle.c_replacement.specs.declared.items.Piece.{Piece as Part}
 use Rattle.c_replacement.specs.declared.items.Argument.{Argument as Operand}
 use Rattle.c_replacement.specs.declared.items.Argument.TheVariants.{Written, Expanded}
-use Rattle.c_expansion.specs.Answers.{Fails}
+use Rattle.fc_base.specs.Answers.{Fails}
 use Rattle.c_expansion.specs.Macros.{HideSet, Item, Macros, written, expanded}
 use Rattle.c_expansion.specs.Turns.{union}
 use Rattle.c_expansion.specs.Replacement.{hidden, argument_text, Expands, Readies, absent, again, fails, first}

@@ -7,7 +7,7 @@ use Rattle.fc_base.specs.declared.Fault.{Fault}
 use Rattle.fc_base.specs.declared.Fault.TheVariants.{Refused, NoMemory}
 use Rattle.c_tokens.specs.declared.Token.{Token}
 use Rattle.c_tokens.specs.declared.TokenKind.{TokenKind}
-use Rattle.c_expansion.specs.Answers.{Fails}
+use Rattle.fc_base.specs.Answers.{Fails}
 use Rattle.c_tokens.specs.Tokens.{token_limit}
 use Rattle.c_expansion.specs.Macros.{HideSet, Item, token, Piece, plain, parameter, Meaning, Macros, Argument}
 use Rattle.c_replacement.specs.declared.items.Item.{Item as Held}

@@ -1,5 +1,6 @@
 -- What the functions of the code give, as plain data.
 use Rattle.std.specs.Prelude.{◌≡◌, ℕ, ◌+◌, ◌<◌, ◌≤◌, Bool, true, false, List, [], ◌∷◌, ◌++◌, length, map, Option, Some, None, Result, Ok, Err}
+use Rattle.fc_base.specs.Answers.{Fails}
 use Rattle.fc_base.specs.declared.Fault.{Fault}
 use Rattle.c_tokens.specs.declared.Token.{Token}
 use Rattle.c_replacement.specs.declared.calls.Step.{Step}
@@ -8,7 +9,6 @@ use Rattle.c_replacement.specs.declared.calls.Call.{Call as Gathered}
 use Rattle.c_replacement.specs.declared.turns.Turn.{Turn as Taken}
 use Rattle.c_replacement.specs.declared.turns.Turn.TheVariants.{Stays, BadCall, Becomes}
 use Rattle.c_replacement.specs.declared.items.Item.{Item as Held}
-use Rattle.c_expansion.specs.Answers.{Fails}
 use Rattle.c_expansion.specs.Macros.{HideSet, Item, token, Macros, Argument, written, expanded}
 use Rattle.c_expansion.specs.Replacement.{Outcome, Expands}
 use Rattle.c_expansion.specs.Turns.{Action, ends, parts, goes, Call, arguments, Turn, stays, bad_call, becomes, turn}

@@ -31,32 +31,12 @@ impl Item<'_> {
         ensures { IfOk result (λ t. t ≡ token (view self.now)) }
     {
         Ok(Token {
-            kind: copied(alloc, self.kind)?,
+            kind: self.kind.copied(alloc)?,
             place: self.place,
             starts_line: self.starts_line,
             spaced: self.spaced,
         })
     }
-}
-
-fn copied(alloc: Global, kind: &TokenKind) -> Result<TokenKind, NoMemory>
-    ensures { IfOk result (λ k. k ≡ kind.now) }
-{
-    Ok(match kind {
-        TokenKind::Name(name) => TokenKind::Name(Text::from_bytes(alloc, name.bytes())?),
-        TokenKind::Number { value, kind } => TokenKind::Number {
-            value: *value,
-            kind: *kind,
-        },
-        TokenKind::CharConst(byte) => TokenKind::CharConst(*byte),
-        TokenKind::Str(text) => TokenKind::Str(Text::from_bytes(alloc, text.bytes())?),
-        TokenKind::Punct(punct) => TokenKind::Punct(*punct),
-        TokenKind::HeaderName(name) => TokenKind::HeaderName(Text::from_bytes(
-            alloc,
-            name.bytes(),
-        )?),
-        TokenKind::Header(header) => TokenKind::Header(*header),
-    })
 }
 
 /// A part of a replacement list: a token, with whether it is spaced, or a parameter by its number from 0.
@@ -86,6 +66,7 @@ pub enum Argument<'a> {
 /// The arguments of a call. Most calls have few of them.
 pub type Arguments<'a> = SmallVec<Argument<'a>, 2>;
 
+// What stands in a small vector's free places.
 impl<'a> MadeWith<Global> for Argument<'a> {
     fn made_with(alloc: Global) -> Argument<'a> {
         Argument::Expanded(Vec::new(alloc))

@@ -3,7 +3,7 @@
 ghost use Rattle.std.specs.Prelude.{◌≡◌, ℕ, ◌+◌, ◌-◌, ◌*◌, ◌≤◌, ◌<◌, ◌++◌, IfOk, OnOk, MatchBool, vec_len, map, reverse, take, drop, length, List};
 ghost use Rattle.fc_base.specs.declared.Fault.TheVariants.{Refused};
 ghost use Rattle.c_tokens.specs.Tokens.{token_limit};
-ghost use Rattle.c_expansion.specs.Answers.{Answers};
+ghost use Rattle.fc_base.specs.Answers.{Answers};
 ghost use Rattle.c_expansion.specs.Replacement.{Outcome, replacing, hidden, argument_text, Expands, Substitutes, Readies};
 ghost use Rattle.c_replacement.specs.HideSets.{held};
 ghost use Rattle.c_replacement.specs.Views.{view, views, left, table, argument_view, argument_views, piece_views};
@@ -140,8 +140,8 @@ fn substitute<'a>(
     Ok(count)
 }
 
-/// Turns the list from there on.
-fn turn_from(list: &mut Vec<Item<'_>>, start: usize)
+/// Reverses the list from there on.
+fn reverse_from(list: &mut Vec<Item<'_>>, start: usize)
     requires { start ≤ vec_len list.old }
     ensures { list.new.items ≡ take start list.old.items ++ reverse (drop start list.old.items) }
 {
@@ -191,7 +191,7 @@ fn stays<'a>(
                 return refuse(Rule::LimitTokens, item.place);
             }
             *count = now + len;
-            turn_from(pending, start);
+            reverse_from(pending, start);
             Ok(false)
         }
     }
@@ -252,7 +252,7 @@ pub fn replace<'a>(
 }
 
 /// Puts the tokens of the list, with its macros replaced, behind those that are done, and gives the count of tokens after
-/// it.
+/// it. After a fault some of them may stand there already.
 pub fn append_replaced<'a>(
     alloc: Global,
     macros: &Macros<'a>,

@@ -1,10 +1,11 @@
 //! A token with its place in the source.
 
-ghost use Rattle.std.specs.Prelude.{◌≡◌};
+ghost use Rattle.std.specs.Prelude.{◌≡◌, IfOk};
 ghost use Rattle.c_tokens.specs.Tokens.{is_hash};
 
 use crate::puncts::{HeaderId, Punct};
-use fc_base::{Place, Text};
+use fc_base::{NoMemory, Place, Text};
+use std::alloc::Global;
 
 /// How many tokens a source may have.
 pub const TOKEN_LIMIT: u64 = 1_000_000;
@@ -38,6 +39,27 @@ impl TokenKind {
     {
         matches!(self, TokenKind::Punct(Punct::Hash))
     }
+
+    /// The same, in memory of its own.
+    pub fn copied(&self, alloc: Global) -> Result<TokenKind, NoMemory>
+        ensures { IfOk result (λ copy. copy ≡ self.now) }
+    {
+        Ok(match self {
+            TokenKind::Name(name) => TokenKind::Name(Text::from_bytes(alloc, name.bytes())?),
+            TokenKind::Number { value, kind } => TokenKind::Number {
+                value: *value,
+                kind: *kind,
+            },
+            TokenKind::CharConst(byte) => TokenKind::CharConst(*byte),
+            TokenKind::Str(text) => TokenKind::Str(Text::from_bytes(alloc, text.bytes())?),
+            TokenKind::Punct(punct) => TokenKind::Punct(*punct),
+            TokenKind::HeaderName(name) => TokenKind::HeaderName(Text::from_bytes(
+                alloc,
+                name.bytes(),
+            )?),
+            TokenKind::Header(header) => TokenKind::Header(*header),
+        })
+    }
 }
 
 /// A token. It starts its line where no other token stands before it there, and is spaced where white space or a
@@ -48,4 +70,18 @@ pub struct Token {
     pub place: Place,
     pub starts_line: bool,
     pub spaced: bool,
+}
+
+impl Token {
+    /// The same, in memory of its own.
+    pub fn copied(&self, alloc: Global) -> Result<Token, NoMemory>
+        ensures { IfOk result (λ copy. copy ≡ self.now) }
+    {
+        Ok(Token {
+            kind: self.kind.copied(alloc)?,
+            place: self.place,
+            starts_line: self.starts_line,
+            spaced: self.spaced,
+        })
+    }
 }

@@ -53,7 +53,7 @@ stays-returns-else-passes_limit-clause-outcome t c =
     let m = rw c.as_mut_slice.ensures.value at c.in_ok-now-in-Becomes.ensures.outcome in
     let start : c.len-start.result ≡ length c.turn_of.new.pending.items = omega arith in
     let n = put_count c.turn_of.new.pending.items c.substitute.new.new.items m.0 c.len-start.result start m.1 c.len.result (omega arith) in
-    let back = put_back c.turn_of.new.pending.items c.substitute.new.new.items m.0 c.len-start.result start m.1 c.turn_from.new.list.items c.turn_from.ensures in
+    let back = put_back c.turn_of.new.pending.items c.substitute.new.new.items m.0 c.len-start.result start m.1 c.reverse_from.new.list.items c.reverse_from.ensures in
     rw (n, back) (it_becomes _ _ _ (view c.args.item.now) _ _ c.in-Some.ensures _ _ _ _ f m.0 c.in_ok-now-in-Becomes.now m.2 (omega (arith, n, c.if-passes_limit.ensures)))
 
 pub run-loop-item-preserved-in-Continue-branch-2 : goal.run-loop-item-preserved-in-Continue-branch-2

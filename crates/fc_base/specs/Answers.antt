@@ -1,8 +1,8 @@
 -- What a function answered, as plain data.
 use Rattle.std.specs.Prelude.{Result, Ok, Err}
-use Rattle.fc_base.specs.declared.Refusal.{Refusal}
-use Rattle.fc_base.specs.declared.Fault.{Fault}
-use Rattle.fc_base.specs.declared.Fault.TheVariants.{Refused, NoMemory}
+use Rattle.fc_base.specs.declared.refusals.Refusal.{Refusal}
+use Rattle.fc_base.specs.declared.refusals.Fault.{Fault}
+use Rattle.fc_base.specs.declared.refusals.Fault.TheVariants.{Refused, NoMemory}
 
 -- a fault has the property, unless it is want of memory
 abbrev pub Fails : {Y : Type 0} → Fault → (Result Y Refusal → Type 0) → Type 0
