@@ -8,6 +8,3 @@ mod values;
 pub use laws::one_decision;
 pub use machine::condition;
 pub use values::Value;
-
-#[cfg(test)]
-mod tests;

@@ -13,6 +13,3 @@ mod reader;
 
 pub use laws::{cuts_of_sources, longest_fronts, readings_of_spellings};
 pub use reader::tokens;
-
-#[cfg(test)]
-mod tests;

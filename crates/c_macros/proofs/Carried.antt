@@ -1,17 +1,18 @@
 -- What the loop over directives and texts keeps: whatever the rest comes to completes the whole.
 use Rattle.std.proofs.Common.{◌≡◌, ℕ, ◌+◌, true, false, List, [], ◌++◌, take, drop, get_or, map, Result, Ok, Err, Vec, Global, refl, sym, ap, subst, ◌∙◌, append_assoc}
 use Rattle.std.proofs.lemmas.List.{append-nil}
+use Rattle.fc_base.specs.Answers.{Answers, Fails}
 use Rattle.fc_base.specs.declared.Fault.{Fault}
 use Rattle.fc_base.specs.declared.Fault.TheVariants.{Refused, NoMemory}
 use Rattle.c_tokens.specs.declared.Token.{Token}
-use Rattle.c_expansion.specs.Answers.{Answers, Fails}
-use Rattle.c_expansion.specs.Macros.{token}
+use Rattle.c_replacement.specs.Turning.{AddsAs}
+use Rattle.c_expansion.specs.Macros.{token, items}
 use Rattle.c_expansion.specs.Lines.{front, rest_of, nothing}
 use Rattle.c_expansion.specs.Moves.{State, Next, goes, Move, moves, expands, move, takes, on_front, on_directive, at_end}
 use Rattle.c_expansion.specs.Expansion.{Expanded, behind, Moved, ends, moved, text as of_text, refused_text as of_refused_text, condition, refused_condition as of_refused_condition, Follows, stops, goes_on}
 use Rattle.c_macros.specs.declared.lines.Part.TheVariants.{Text, Line}
 use Rattle.c_macros.specs.States.{PartIs, EndsAs}
-use Rattle.c_macros.specs.Comes.{Comes, at_once, by_text, refused_text, by_condition, refused_condition, DoesAs, TakesAs}
+use Rattle.c_macros.specs.Comes.{Comes, at_once, by_text, refused_text, by_condition, refused_condition, DoesAs}
 
 comes_to : {st : State} {count c : ℕ} {ts : List Token} {m : Move} {n : Next} {out : Expanded} → move st ts ≡ m → Comes st.macros count m n c → Follows n c (rest_of (front ts)) out → Moved st count ts out
 comes_to e at_once f = moved e f
@@ -70,7 +71,7 @@ module _ (ts : List Token) (n : ℕ) where
     taken_move : PartIs ts (Text n) → takes st.groups ≡ true → move st ts ≡ expands (take n ts) (λ xs. goes st (map token xs))
     taken_move p e = ap (on_front st) p.0 ∙ rw e refl
 
-    pub taken_text : PartIs ts (Text n) → takes st.groups ≡ true → (r : Result ℕ Fault) → TakesAs r st.macros count (take n ts) before after → DoesAs r st.macros count (move st ts) st before after
+    pub taken_text : PartIs ts (Text n) → takes st.groups ≡ true → (r : Result ℕ Fault) → AddsAs r st.macros count (items (take n ts)) before after → DoesAs r st.macros count (move st ts) st before after
     taken_text p e (Ok c) t = (map token t.0, t.1, rw (taken_move p e) (by_text t.2))
     taken_text p e (Err NoMemory) t = tt
     taken_text p e (Err (Refused q)) t = (count, rw (taken_move p e) (refused_text t))

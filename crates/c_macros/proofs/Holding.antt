@@ -6,7 +6,7 @@ use Rattle.fc_base.specs.declared.Fault.{Fault}
 use Rattle.fc_base.specs.declared.Fault.TheVariants.{Refused, NoMemory}
 use Rattle.c_tokens.specs.declared.Token.{Token}
 use Rattle.c_conditions.specs.Conditions.{Decides}
-use Rattle.c_expansion.specs.Answers.{Fails}
+use Rattle.fc_base.specs.Answers.{Fails}
 use Rattle.c_expansion.specs.Macros.{Macros, Item, items}
 use Rattle.c_expansion.specs.Replacement.{Expands}
 use Rattle.c_expansion.specs.Moves.{Next, condition, with_answers}

@@ -6,7 +6,7 @@ use Rattle.fc_base.specs.declared.Fault.{Fault}
 use Rattle.fc_base.specs.declared.Fault.TheVariants.{Refused, NoMemory}
 use Rattle.c_tokens.specs.declared.Token.{Token}
 use Rattle.c_conditions.specs.Conditions.{Decides}
-use Rattle.c_expansion.specs.Macros.{Macros, Item, items, token}
+use Rattle.c_expansion.specs.Macros.{Macros, Item, items}
 use Rattle.c_expansion.specs.Replacement.{Expands}
 use Rattle.c_expansion.specs.Moves.{State, Next, refuses, goes, Move, moves, expands, decides, condition, with_answers}
 
@@ -30,9 +30,3 @@ abbrev pub HoldsAs : Result (Bool × ℕ) Fault → Macros → ℕ → Place →
 HoldsAs (Ok r) ms count place line = (next : Bool → Next) → Comes ms count (condition place next (with_answers ms 0 line)) (next r.0) r.1
 HoldsAs (Err NoMemory) ms count place line = Unit {0}
 HoldsAs (Err (Refused e)) ms count place line = (next : Bool → Next) → (c : ℕ) × Comes ms count (condition place next (with_answers ms 0 line)) (refuses e) c
-
--- the tokens of an expanded text stand behind those from before
-abbrev pub TakesAs : Result ℕ Fault → Macros → ℕ → List Token → List Token → List Token → Type 0
-TakesAs (Ok c) ms count now before after = (xs : List Item) × (after ≡ before ++ map token xs) × Expands ms 0 count (items now) (Ok (xs, c))
-TakesAs (Err NoMemory) ms count now before after = Unit {0}
-TakesAs (Err (Refused e)) ms count now before after = Expands ms 0 count (items now) (Err e)

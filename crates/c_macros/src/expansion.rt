@@ -2,7 +2,7 @@
 
 ghost use Rattle.std.specs.Prelude.{◌≡◌, ◌++◌, ◌≤◌, length, List, IfOk, OnOk, map, reverse};
 ghost use Rattle.std.specs.List.{All};
-ghost use Rattle.c_expansion.specs.Answers.{Answers};
+ghost use Rattle.fc_base.specs.Answers.{Answers};
 ghost use Rattle.c_expansion.specs.Macros.{Macros, items, no_macros};
 ghost use Rattle.c_expansion.specs.Expansion.{Expanded, IsExpanded};
 ghost use Rattle.c_tokens.specs.Pieces.{IsLexedKind};
@@ -10,7 +10,8 @@ ghost use Rattle.c_expansion.specs.Moves as moves;
 ghost use Rattle.c_replacement.specs.Views.{table, views};
 ghost use Rattle.c_macros.specs.States.{state, EndsAs, PartIs};
 ghost use Rattle.c_macros.specs.declared.lines.Part.TheVariants as part;
-ghost use Rattle.c_macros.specs.Comes.{TakesAs, DoesAs};
+ghost use Rattle.c_replacement.specs.Turning.{AddsAs};
+ghost use Rattle.c_macros.specs.Comes.{DoesAs};
 
 use crate::builtins::{Builtins, make_builtins};
 use crate::conditions::{item, refuse};
@@ -43,7 +44,7 @@ fn take_text<'a>(
     done: &mut Vec<Token>,
     count: u64,
 ) -> Result<u64, Fault>
-    ensures { TakesAs result (table macros.now) count text.now done.old.items done.new.items }
+    ensures { AddsAs result (table macros.now) count (items text.now) done.old.items done.new.items }
 {
     let list = items(alloc, text)?;
     append_replaced(alloc, macros, list, count, done)

@@ -10,7 +10,5 @@ mod headers;
 mod lines;
 mod sameness;
 mod states;
-#[cfg(test)]
-mod tests;
 
 pub use expansion::expand;

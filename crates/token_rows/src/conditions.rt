@@ -1,13 +1,13 @@
 //! Conditions, with the answers that C11 6.6 and the rules of the subset give them, worked out by hand.
 
-use crate::condition;
+use c_conditions::condition;
 use c_tokens::{NumberKind, Punct, TokenKind};
 use fc_base::Text;
 use std::alloc::Global;
 use std::test::Fail;
 
 /// The punctuators of the rows.
-const PUNCTS: [Punct; 25] = [
+const PUNCTS: &[Punct] = &[
     Punct::LeftParen,
     Punct::RightParen,
     Punct::Plus,
@@ -38,7 +38,7 @@ const PUNCTS: [Punct; 25] = [
 /// The kind of a word: a punctuator, a decimal number with or without `u`, a character constant by its number between
 /// quotes, a string literal, or a name.
 fn kind(alloc: Global, word: &str) -> Result<TokenKind, Fail> {
-    for punct in PUNCTS {
+    for &punct in PUNCTS {
         if punct.spelling() == word {
             return Ok(TokenKind::Punct(punct));
         }
@@ -75,96 +75,102 @@ fn decided(alloc: Global, text: &str) -> Result<Option<bool>, Fail> {
     Ok(decision)
 }
 
+/// Conditions that hold.
+const HOLDING: &[&str] = &[
+    "1",
+    "int + sizeof == 0",
+    // the levels of operators, and how each groups
+    "2 + 3 * 4 == 14",
+    "1 - 2 - 3 == - 4",
+    "100 / 10 / 5 == 2",
+    "1 << 2 + 1 == 8",
+    "1 < 2 == 1",
+    "( 1 | 6 ^ 4 & 5 ) == 3",
+    "1 || 0 && 0",
+    "+ - ~ ! 1 == 1",
+    "1 ? 2 : 0 ? 0 : 0",
+    "1 ? 1 : 0 ? 1 / 0 : 1 / 0",
+    "0 ? 1 , 2 : 3",
+    // the usual conversions
+    "- 1 > 0u",
+    "- 1 < 0",
+    "( 1 ? - 1 : 0u ) > 0",
+    "( 0 ? 0u : - 1 ) > 0",
+    "- 1 * 1u > 0",
+    "1u << 0 > - 1 == 0",
+    "! 0u - 2 < 0",
+    "~ 0u == 18446744073709551615u",
+    "~ 0 == - 1",
+    // signed division, and shifts
+    "- 7 / 2 == - 3",
+    "- 7 % 2 == - 1",
+    "7 % - 2 == 1",
+    "- 1 >> 63 == - 1",
+    "9223372036854775808 >> 63 == 1",
+    "1 << 63 < 0",
+    // literals, and sums that wrap
+    "9223372036854775808 > 0",
+    "- 9223372036854775808 > 0",
+    "9223372036854775807 + 1 < 0",
+    "18446744073709551615 + 1 == 0",
+    "'255' == - 1",
+    "'255' < 0",
+    "'127' > 0",
+    // operands that are not evaluated
+    "( 2 || 1 / 0 ) && ( 1 ? 2 : 1 / 0 )",
+    "( 0 && ( 1 << 64 , 1 ) ) == 0",
+];
+
+/// Conditions that do not.
+const FAILING: &[&str] = &[
+    "0",
+    "name",
+    "3 > 2 > 1",
+    "1 ? ( 0 ? 1 : 0 ) : 1",
+    "0 && 1 / 0",
+    "- 1 < 0u",
+    "0 ? 1 : 2 == 1",
+];
+
+/// Lines that are no condition, or have no value.
+const BAD: &[&str] = &[
+    // no constant expression
+    "",
+    "\"a\"",
+    "1 1",
+    "1 = 1",
+    "( ( 1 )",
+    "1 )",
+    "( )",
+    "1 +",
+    "* 1",
+    "1 ? 2",
+    "1 ? : 2",
+    "1 : 2",
+    "sizeof ( int )",
+    "( int ) 3",
+    "0 , 1",
+    "1 ? 2 : 3 , 4",
+    // no value
+    "1 / 0",
+    "1 % 0",
+    "( - 9223372036854775807 - 1 ) / - 1",
+    "( - 9223372036854775807 - 1 ) % - 1",
+    "1 << 64",
+    "1 << - 1",
+    "( 1 , 1 )",
+    "1 && ( 1 , 1 )",
+];
+
 #[test]
 fn rows_of_conditions(rt: HostRuntime) -> Result<(), Fail> {
-    let holding = [
-        "1",
-        "int + sizeof == 0",
-        // the levels of operators, and how each groups
-        "2 + 3 * 4 == 14",
-        "1 - 2 - 3 == - 4",
-        "100 / 10 / 5 == 2",
-        "1 << 2 + 1 == 8",
-        "1 < 2 == 1",
-        "( 1 | 6 ^ 4 & 5 ) == 3",
-        "1 || 0 && 0",
-        "+ - ~ ! 1 == 1",
-        "1 ? 2 : 0 ? 0 : 0",
-        "1 ? 1 : 0 ? 1 / 0 : 1 / 0",
-        "0 ? 1 , 2 : 3",
-        // the usual conversions
-        "- 1 > 0u",
-        "- 1 < 0",
-        "( 1 ? - 1 : 0u ) > 0",
-        "( 0 ? 0u : - 1 ) > 0",
-        "- 1 * 1u > 0",
-        "1u << 0 > - 1 == 0",
-        "! 0u - 2 < 0",
-        "~ 0u == 18446744073709551615u",
-        "~ 0 == - 1",
-        // signed division, and shifts
-        "- 7 / 2 == - 3",
-        "- 7 % 2 == - 1",
-        "7 % - 2 == 1",
-        "- 1 >> 63 == - 1",
-        "9223372036854775808 >> 63 == 1",
-        "1 << 63 < 0",
-        // literals, and sums that wrap
-        "9223372036854775808 > 0",
-        "- 9223372036854775808 > 0",
-        "9223372036854775807 + 1 < 0",
-        "18446744073709551615 + 1 == 0",
-        "'255' == - 1",
-        "'255' < 0",
-        "'127' > 0",
-        // operands that are not evaluated
-        "( 2 || 1 / 0 ) && ( 1 ? 2 : 1 / 0 )",
-        "( 0 && ( 1 << 64 , 1 ) ) == 0",
-    ];
-    for text in holding {
+    for &text in HOLDING {
         assert_eq!(rt; decided(rt.alloc(), text)?, Some(true), "{text}");
     }
-    let failing = [
-        "0",
-        "name",
-        "3 > 2 > 1",
-        "1 ? ( 0 ? 1 : 0 ) : 1",
-        "0 && 1 / 0",
-        "- 1 < 0u",
-        "0 ? 1 : 2 == 1",
-    ];
-    for text in failing {
+    for &text in FAILING {
         assert_eq!(rt; decided(rt.alloc(), text)?, Some(false), "{text}");
     }
-    let bad = [
-        // no constant expression
-        "",
-        "\"a\"",
-        "1 1",
-        "1 = 1",
-        "( ( 1 )",
-        "1 )",
-        "( )",
-        "1 +",
-        "* 1",
-        "1 ? 2",
-        "1 ? : 2",
-        "1 : 2",
-        "sizeof ( int )",
-        "( int ) 3",
-        "0 , 1",
-        "1 ? 2 : 3 , 4",
-        // no value
-        "1 / 0",
-        "1 % 0",
-        "( - 9223372036854775807 - 1 ) / - 1",
-        "( - 9223372036854775807 - 1 ) % - 1",
-        "1 << 64",
-        "1 << - 1",
-        "( 1 , 1 )",
-        "1 && ( 1 , 1 )",
-    ];
-    for text in bad {
+    for &text in BAD {
         assert_eq!(rt; decided(rt.alloc(), text)?, None, "{text}");
     }
     Ok(())
