@@ -1,6 +1,7 @@
 -- What is in the grammar is read: declarators and specifiers with bodies.
 use Rattle.std.proofs.Common.{◌≡◌, ℕ, zero, suc, ◌<◌, ◌≤◌, max, List, [], ◌∷◌, length, Option, Some, None, Bool, true, false, refl, ap, ◌∙◌, arith}
 use Rattle.std.specs.Prelude.{not}
+use Rattle.std.proofs.lemmas.Bool.{le-leb}
 use Rattle.fc_base.specs.declared.refusals.Place.{Place}
 use Rattle.c_tokens.specs.declared.puncts.Punct.TheVariants as p
 use Rattle.c_tokens.specs.declared.tokens.Token.{Token}
@@ -125,7 +126,7 @@ abstract_unnamed (g.abstract_pointer d f) e = let u = abstract_direct_unnamed f 
 module _ (n : ℕ) (sub : ℕ → List Lexeme → Option (Read Expr)) (full : ReadsAll n sub) (deep : List Lexeme → Option (Read Named)) (deep_full : ReadsNamed n deep) where
   -- ---- Parameters
 
-  param_reads : {h : ℕ} {s t : List Lexeme} {x : Param} → IsParam s x h t → h ≤ n → EndsParam t → param sub deep s ≡ Some (found x h t)
+  param_reads : {h : ℕ} {s t : List Lexeme} {x : Param} → IsParam s x h t → h ≤ n → EndsParam t → param (suc n) sub deep s ≡ Some (found x h t)
   unfolding param param_named param_abstract
   param_reads (g.param_named d f) low ends =
       rw (specs_read inner n plain_spec (plain_read inner n refl) d (omega arith) (declarator_ends_specs f), named_is f, deep_full _ _ _ _ _ f (omega arith) ends.stops) refl
@@ -133,7 +134,7 @@ module _ (n : ℕ) (sub : ℕ → List Lexeme → Option (Read Expr)) (full : Re
       rw (
         specs_read inner n plain_spec (plain_read inner n refl) d (omega arith) (abstract_ends_specs f ends.specs_end),
         abstract_unnamed f (record { direct_is = ends.unnamed; whole_is = ends.plain; no_word = ends.no_word }),
-        abstract_reads n sub full (place_of s) f (omega arith) ends.abstract_ends,
+        abstract_reads n sub full (suc n) (place_of s) f (omega arith) (omega arith) ends.abstract_ends,
       ) refl
 
   comma_ends : (o : Token) (t : List Lexeme) → EndsParam (at (k.Punct p.Comma) o ∷ t)
@@ -142,7 +143,7 @@ module _ (n : ℕ) (sub : ℕ → List Lexeme → Option (Read Expr)) (full : Re
   paren_ends : (o : Token) (t : List Lexeme) → EndsParam (at (k.Punct p.RightParen) o ∷ t)
   paren_ends o t = record { abstract_ends = record { quiet_behind = refl; no_bracket = refl }; specs_end = record { no_spec = refl; no_body = refl }; unnamed = refl; plain = refl; no_word = refl; stops = refl }
 
-  params_some_read : (m : ℕ) {h : ℕ} {s t : List Lexeme} {xs : List Param} → AreParamsSome s xs h t → h ≤ n → length s ≤ m → params_some sub deep m s ≡ Some (found xs h t)
+  params_some_read : (m : ℕ) {h : ℕ} {s t : List Lexeme} {xs : List Param} → AreParamsSome s xs h t → h ≤ n → length s ≤ m → params_some (suc n) sub deep m s ≡ Some (found xs h t)
   unfolding params_some
   params_some_read zero (g.last_param d) low room = absurd (omega (arith, alike_shorter (param_moves d []).1))
   params_some_read zero (g.more_params d f) low room = absurd (omega (arith, alike_shorter (param_moves d []).1))
@@ -162,18 +163,18 @@ module _ (n : ℕ) (sub : ℕ → List Lexeme → Option (Read Expr)) (full : Re
       param_begins (g.param_named d f) = specs_begin d
       param_begins (g.param_abstract d f) = specs_begin d
 
-  void_is : (o : Token) (t : List Lexeme) → is_void_alone (at (k.Word w.Void) o ∷ t) ≡ false → params_void sub deep o t ≡ params_list sub deep (at (k.Word w.Void) o ∷ t)
+  void_is : (o : Token) (t : List Lexeme) → is_void_alone (at (k.Word w.Void) o ∷ t) ≡ false → params_void (suc n) sub deep o t ≡ params_list (suc n) sub deep (at (k.Word w.Void) o ∷ t)
   void_is o [] e = refl
   void_is o (at (k.Punct p.RightParen) q ∷ t) e = cc
   void_is o (at _ q ∷ t) e = refl
 
-  params_in_is : (s : List Lexeme) → begins_spec s ≡ true → is_void_alone s ≡ false → params_in sub deep s ≡ params_list sub deep s
+  params_in_is : (s : List Lexeme) → begins_spec s ≡ true → is_void_alone s ≡ false → params_in (suc n) sub deep s ≡ params_list (suc n) sub deep s
   params_in_is [] e f = refl
   params_in_is (at (k.Punct p.RightParen) o ∷ t) e f = cc
   params_in_is (at (k.Word w.Void) o ∷ t) e f = void_is o t f
   params_in_is (at _ o ∷ t) e f = refl
 
-  params_read : {h : ℕ} {s t : List Lexeme} {x : Params} → AreParams s x h t → h ≤ n → params_in sub deep s ≡ Some (found x h t)
+  params_read : {h : ℕ} {s t : List Lexeme} {x : Params} → AreParams s x h t → h ≤ n → params_in (suc n) sub deep s ≡ Some (found x h t)
   unfolding params_list
   params_read g.no_params low = refl
   params_read g.void_params low = refl
@@ -181,28 +182,28 @@ module _ (n : ℕ) (sub : ℕ → List Lexeme → Option (Read Expr)) (full : Re
 
   -- ---- Declarators
 
-  suffixes_bound : (m : ℕ) (start : Place) (h : ℕ) (o : Token) {j : ℕ} {t u : List Lexeme} (x : Declarator) (a : Declared) {y : Option Expr} → g.IsBound t y j u → j ≤ n →
-      suffixes sub deep (suc m) start (found (as_named x a) h (at (k.Punct p.LeftBracket) o ∷ t)) ≡ suffixes sub deep m start (found (as_named (d.Array x y start) (behind a other)) (suc (max h j)) u)
+  suffixes_bound : (m : ℕ) (start : Place) (h : ℕ) (o : Token) {j : ℕ} {t u : List Lexeme} (x : Declarator) (a : Declared) {y : Option Expr} → g.IsBound t y j u → j ≤ n → suc (max h j) ≤ suc n →
+      suffixes (suc n) sub deep (suc m) start (found (as_named x a) h (at (k.Punct p.LeftBracket) o ∷ t)) ≡ suffixes (suc n) sub deep m start (found (as_named (d.Array x y start) (behind a other)) (suc (max h j)) u)
   unfolding suffixes
-  suffixes_bound m start h o x a f low = rw (bound_reads n sub full f low) refl
+  suffixes_bound m start h o {j} x a f low within = rw (bound_reads n sub full f low, le-leb (suc (max h j)) (suc n) within) refl
 
-  suffixes_params : (m : ℕ) (start : Place) (h : ℕ) (o : Token) {j : ℕ} {t u : List Lexeme} (x : Declarator) (a : Declared) {y : Params} → AreParams t y j u → j ≤ n →
-      suffixes sub deep (suc m) start (found (as_named x a) h (at (k.Punct p.LeftParen) o ∷ t)) ≡ suffixes sub deep m start (found (as_named (d.Function x y start) (behind a parameters)) (suc (max h j)) u)
+  suffixes_params : (m : ℕ) (start : Place) (h : ℕ) (o : Token) {j : ℕ} {t u : List Lexeme} (x : Declarator) (a : Declared) {y : Params} → AreParams t y j u → j ≤ n → suc (max h j) ≤ suc n →
+      suffixes (suc n) sub deep (suc m) start (found (as_named x a) h (at (k.Punct p.LeftParen) o ∷ t)) ≡ suffixes (suc n) sub deep m start (found (as_named (d.Function x y start) (behind a parameters)) (suc (max h j)) u)
   unfolding suffixes
-  suffixes_params m start h o x a f low = rw (params_read f low) refl
+  suffixes_params m start h o {j} x a f low within = rw (params_read f low, le-leb (suc (max h j)) (suc n) within) refl
 
-  suffixes_end : (m : ℕ) (start : Place) (x : Read Named) → goes_on x.rest ≡ false → suffixes sub deep m start x ≡ Some x
+  suffixes_end : (m : ℕ) (start : Place) (x : Read Named) → goes_on x.rest ≡ false → suffixes (suc n) sub deep m start x ≡ Some x
   unfolding suffixes
   suffixes_end zero start x e = go x.rest e
     where
-      go : (t : List Lexeme) → goes_on t ≡ false → suffixes_behind sub deep (λ x. None) start x t ≡ Some x
+      go : (t : List Lexeme) → goes_on t ≡ false → suffixes_behind (suc n) sub deep (λ x. None) start x t ≡ Some x
       go [] e = refl
       go (at (k.Punct p.LeftBracket) o ∷ t) e = cc
       go (at (k.Punct p.LeftParen) o ∷ t) e = cc
       go (at _ o ∷ t) e = refl
   suffixes_end (suc m) start x e = go x.rest e
     where
-      go : (t : List Lexeme) → goes_on t ≡ false → suffixes_behind sub deep (suffixes sub deep m start) start x t ≡ Some x
+      go : (t : List Lexeme) → goes_on t ≡ false → suffixes_behind (suc n) sub deep (suffixes (suc n) sub deep m start) start x t ≡ Some x
       go [] e = refl
       go (at (k.Punct p.LeftBracket) o ∷ t) e = cc
       go (at (k.Punct p.LeftParen) o ∷ t) e = cc
@@ -212,31 +213,31 @@ module _ (n : ℕ) (sub : ℕ → List Lexeme → Option (Read Expr)) (full : Re
   record DirectTo (inside : List Lexeme → Option (Read Named)) (s : List Lexeme) (x : Declarator) (a : Declared) (h : ℕ) (t : List Lexeme) : Type 0 where
     turns : ℕ
     room : length t ≤ turns
-    same : direct sub deep inside s ≡ suffixes sub deep turns (place_of s) (found (as_named x a) h t)
+    same : direct (suc n) sub deep inside s ≡ suffixes (suc n) sub deep turns (place_of s) (found (as_named x a) h t)
 
   array_on : (inside : List Lexeme → Option (Read Named)) {h j : ℕ} {o : Token} {s t u : List Lexeme} {x : Declarator} {a : Declared} {y : Option Expr} →
-      DirectTo inside s x a h (at (k.Punct p.LeftBracket) o ∷ t) → g.IsBound t y j u → j ≤ n → DirectTo inside s (d.Array x y (place_of s)) (behind a other) (suc (max h j)) u
-  array_on inside {h} {j} {o} {s} {t} {u} {x} {a} {y} r f low = go r.turns r.room r.same
+      DirectTo inside s x a h (at (k.Punct p.LeftBracket) o ∷ t) → g.IsBound t y j u → j ≤ n → suc (max h j) ≤ suc n → DirectTo inside s (d.Array x y (place_of s)) (behind a other) (suc (max h j)) u
+  array_on inside {h} {j} {o} {s} {t} {u} {x} {a} {y} r f low within = go r.turns r.room r.same
     where
-      go : (m : ℕ) → suc (length t) ≤ m → direct sub deep inside s ≡ suffixes sub deep m (place_of s) (found (as_named x a) h (at (k.Punct p.LeftBracket) o ∷ t)) →
+      go : (m : ℕ) → suc (length t) ≤ m → direct (suc n) sub deep inside s ≡ suffixes (suc n) sub deep m (place_of s) (found (as_named x a) h (at (k.Punct p.LeftBracket) o ∷ t)) →
           DirectTo inside s (d.Array x y (place_of s)) (behind a other) (suc (max h j)) u
       go zero room same = absurd (omega arith)
-      go (suc m) room same = record { turns = m; room = omega (arith, alike_shorter (bound_moves f []).1); same = same ∙ suffixes_bound m (place_of s) h o x a f low }
+      go (suc m) room same = record { turns = m; room = omega (arith, alike_shorter (bound_moves f []).1); same = same ∙ suffixes_bound m (place_of s) h o x a f low within }
 
   function_on : (inside : List Lexeme → Option (Read Named)) {h j : ℕ} {o : Token} {s t u : List Lexeme} {x : Declarator} {a : Declared} {y : Params} →
-      DirectTo inside s x a h (at (k.Punct p.LeftParen) o ∷ t) → AreParams t y j u → j ≤ n → DirectTo inside s (d.Function x y (place_of s)) (behind a parameters) (suc (max h j)) u
-  function_on inside {h} {j} {o} {s} {t} {u} {x} {a} {y} r f low = go r.turns r.room r.same
+      DirectTo inside s x a h (at (k.Punct p.LeftParen) o ∷ t) → AreParams t y j u → j ≤ n → suc (max h j) ≤ suc n → DirectTo inside s (d.Function x y (place_of s)) (behind a parameters) (suc (max h j)) u
+  function_on inside {h} {j} {o} {s} {t} {u} {x} {a} {y} r f low within = go r.turns r.room r.same
     where
-      go : (m : ℕ) → suc (length t) ≤ m → direct sub deep inside s ≡ suffixes sub deep m (place_of s) (found (as_named x a) h (at (k.Punct p.LeftParen) o ∷ t)) →
+      go : (m : ℕ) → suc (length t) ≤ m → direct (suc n) sub deep inside s ≡ suffixes (suc n) sub deep m (place_of s) (found (as_named x a) h (at (k.Punct p.LeftParen) o ∷ t)) →
           DirectTo inside s (d.Function x y (place_of s)) (behind a parameters) (suc (max h j)) u
       go zero room same = absurd (omega arith)
-      go (suc m) room same = record { turns = m; room = omega (arith, alike_shorter (params_move f []).1); same = same ∙ suffixes_params m (place_of s) h o x a f low }
+      go (suc m) room same = record { turns = m; room = omega (arith, alike_shorter (params_move f []).1); same = same ∙ suffixes_params m (place_of s) h o x a f low within }
 
   direct_ended : (inside : List Lexeme → Option (Read Named)) {h : ℕ} {s t : List Lexeme} {x : Declarator} {a : Declared} → DirectTo inside s x a h t → goes_on t ≡ false →
-      direct sub deep inside s ≡ Some (found (as_named x a) h t)
+      direct (suc n) sub deep inside s ≡ Some (found (as_named x a) h t)
   direct_ended inside {h} {s} {t} {x} {a} r e = r.same ∙ suffixes_end r.turns (place_of s) (found (as_named x a) h t) e
 
-  whole_direct : (inside : List Lexeme → Option (Read Named)) {h : ℕ} {s t : List Lexeme} {x : Declarator} {a : Declared} → IsDirect s x a h t → whole_by sub deep inside s ≡ direct sub deep inside s
+  whole_direct : (inside : List Lexeme → Option (Read Named)) {h : ℕ} {s t : List Lexeme} {x : Declarator} {a : Declared} → IsDirect s x a h t → whole_by (suc n) sub deep inside s ≡ direct (suc n) sub deep inside s
   whole_direct inside g.direct_name = refl
   whole_direct inside (g.direct_parens d) = refl
   whole_direct inside (g.direct_array d f) = whole_direct inside d
@@ -245,20 +246,20 @@ module _ (n : ℕ) (sub : ℕ → List Lexeme → Option (Read Expr)) (full : Re
   mutual
     unfolding direct grouped whole pointer_to
 
-    direct_to : (m : ℕ) {h : ℕ} {s t : List Lexeme} {x : Declarator} {a : Declared} → IsDirect s x a h t → h ≤ suc n → length s ≤ m → DirectTo (whole sub deep m) s x a h t
+    direct_to : (m : ℕ) {h : ℕ} {s t : List Lexeme} {x : Declarator} {a : Declared} → IsDirect s x a h t → h ≤ suc n → length s ≤ m → DirectTo (whole (suc n) sub deep m) s x a h t
     direct_to m (g.direct_name {t = t}) low room = record { turns = suc (length t); room = omega arith; same = refl }
     direct_to m (g.direct_parens {o = o} {t = t} {u = u} d) low room =
         record { turns = suc (length t); room = omega (arith, alike_shorter (declarator_moves d []).1); same = rw (whole_reads m d low (omega arith) refl) refl }
-    direct_to m (g.direct_array d f) low room = array_on (whole sub deep m) (direct_to m d (omega arith) room) f (omega arith)
-    direct_to m (g.direct_function d f) low room = function_on (whole sub deep m) (direct_to m d (omega arith) room) f (omega arith)
+    direct_to m (g.direct_array d f) low room = array_on (whole (suc n) sub deep m) (direct_to m d (omega arith) room) f (omega arith) low
+    direct_to m (g.direct_function d f) low room = function_on (whole (suc n) sub deep m) (direct_to m d (omega arith) room) f (omega arith) low
 
     whole_reads : (m : ℕ) {h : ℕ} {s t : List Lexeme} {x : Declarator} {a : Declared} → IsDeclarator s x a h t → h ≤ suc n → length s < m → goes_on t ≡ false →
-        whole sub deep m s ≡ Some (found (as_named x a) h t)
+        whole (suc n) sub deep m s ≡ Some (found (as_named x a) h t)
     whole_reads zero d low room e = absurd (omega arith)
-    whole_reads (suc m) (g.declarator_plain d) low room e = whole_direct (whole sub deep m) d ∙ direct_ended (whole sub deep m) (direct_to m d low (omega arith)) e
+    whole_reads (suc m) (g.declarator_plain d) low room e = whole_direct (whole (suc n) sub deep m) d ∙ direct_ended (whole (suc n) sub deep m) (direct_to m d low (omega arith)) e
     whole_reads (suc m) (g.declarator_pointer {o = o} {t = v} d f) low room e =
-        ap (pointer_of sub deep (whole sub deep m) o.place) (words_read d (direct_no_word f))
-        ∙ rw (direct_ended (whole sub deep m) (direct_to m f (omega arith) (omega (arith, alike_length (words_move d []).1))) e) refl
+        ap (pointer_of (suc n) sub deep (whole (suc n) sub deep m) o.place) (words_read d (direct_no_word f))
+        ∙ rw (direct_ended (whole (suc n) sub deep m) (direct_to m f (omega arith) (omega (arith, alike_length (words_move d []).1))) e) refl
 
 mutual
   direct_higher : {h : ℕ} {s t : List Lexeme} {x : Declarator} {a : Declared} → IsDirect s x a h t → 1 ≤ h

@@ -68,7 +68,7 @@ module _ (n : ℕ) (sub : ℕ → List Lexeme → Option (Read Expr)) (full : Re
       let ends : EndsAbstract (at (k.Punct p.RightParen) o ∷ v) = record { quiet_behind = refl; no_bracket = refl } in
       rw (
         specs_read inner n plain_spec (plain_read inner n refl) d (omega arith) (abstract_ends_specs f (record { no_spec = refl; no_body = refl })),
-        abstract_reads n sub full (place_of s) f (omega arith) ends,
+        abstract_reads n sub full (suc n) (place_of s) f (omega arith) (omega arith) ends,
         le-leb (suc (max h j)) n low,
       ) refl
 

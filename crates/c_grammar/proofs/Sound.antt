@@ -120,23 +120,24 @@ module _ (n : ℕ) (sub : ℕ → List Lexeme → Option (Read Expr)) (sound : (
   bound_sound (at (k.Punct p.RightBracket) o ∷ t) = record { derives = g.no_bound }
   bound_sound (o ∷ t) = bound_some_sound (o ∷ t)
 
-  module _ (place : Place) where
+  module _ (limit : ℕ) (place : Place) where
     arrays_behind_sound : (later : Read Declarator → Option (Read Declarator)) (s : List Lexeme) →
         ((x : Read Declarator) → AreArrays place s x.tree x.height x.rest → IfSome (later x) (Found (AreArrays place) s)) →
-        (x : Read Declarator) (t : List Lexeme) → x.rest ≡ t → AreArrays place s x.tree x.height x.rest → IfSome (arrays_behind sub place later (place_of s) x t) (Found (AreArrays place) s)
+        (x : Read Declarator) (t : List Lexeme) → x.rest ≡ t → AreArrays place s x.tree x.height x.rest → IfSome (arrays_behind sub limit place later (place_of s) x t) (Found (AreArrays place) s)
     arrays_behind_sound later s h x [] e d = record { derives = d }
     arrays_behind_sound later s h x (at (k.Punct p.LeftBracket) o ∷ t) e d =
         bind_all _ _ (bound sub t) _ (bound_sound t) (λ y f.
-        h (record { tree = _; height = _; rest = y.rest }) (g.abstract_array (subst (AreArrays place s x.tree x.height) e d) f.derives))
+        if_all _ (nat_le (suc (max x.height y.height)) limit) _ _
+        (λ _. h (record { tree = _; height = _; rest = y.rest }) (g.abstract_array (subst (AreArrays place s x.tree x.height) e d) f.derives)) (λ _. tt))
     arrays_behind_sound later s h x _ e d = record { derives = d }
 
-    arrays_sound : (m : ℕ) (s : List Lexeme) (x : Read Declarator) → AreArrays place s x.tree x.height x.rest → IfSome (arrays sub place m (place_of s) x) (Found (AreArrays place) s)
+    arrays_sound : (m : ℕ) (s : List Lexeme) (x : Read Declarator) → AreArrays place s x.tree x.height x.rest → IfSome (arrays sub limit place m (place_of s) x) (Found (AreArrays place) s)
     unfolding arrays
     arrays_sound zero s x d = arrays_behind_sound (λ x. None) s (λ x d. tt) x x.rest refl d
-    arrays_sound (suc m) s x d = arrays_behind_sound (arrays sub place m (place_of s)) s (arrays_sound m s) x x.rest refl d
+    arrays_sound (suc m) s x d = arrays_behind_sound (arrays sub limit place m (place_of s)) s (arrays_sound m s) x x.rest refl d
 
     group_sound : (o : Token) (t : List Lexeme) (ws : List PointerWord) (s : List Lexeme) → MaybeStars t ws s →
-        IfSome (group_of sub place o.place (place_of t) (ws, s)) (Found (IsAbstractDirect place) (at (k.Punct p.LeftParen) o ∷ t))
+        IfSome (group_of sub limit place o.place (place_of t) (ws, s)) (Found (IsAbstractDirect place) (at (k.Punct p.LeftParen) o ∷ t))
     unfolding group_behind
     group_sound o t [] s d = tt
     group_sound o t (w ∷ ws) s (some_stars d) =
@@ -145,23 +146,23 @@ module _ (n : ℕ) (sub : ℕ → List Lexeme → Option (Read Expr)) (sound : (
         bind_all _ _ (bound sub v) _ (bound_sound v) (λ y f.
         record { derives = g.abstract_group (subst (λ l. AreStars t (w ∷ ws) (at (k.Punct p.RightParen) close.0 ∷ l)) begin.1 (subst (AreStars t (w ∷ ws)) close.1 d)) f.derives })))
 
-    arrays_whole : (s : List Lexeme) → IfSome (arrays sub place (length s) (place_of s) (found (d.Omitted place) 1 s)) (Found (IsAbstractDirect place) s)
-    arrays_whole s = weaken _ _ (arrays sub place (length s) (place_of s) (found (d.Omitted place) 1 s)) (arrays_sound (length s) s _ g.omitted) (λ r f. record { derives = g.abstract_arrays f.derives })
+    arrays_whole : (s : List Lexeme) → IfSome (arrays sub limit place (length s) (place_of s) (found (d.Omitted place) 1 s)) (Found (IsAbstractDirect place) s)
+    arrays_whole s = weaken _ _ (arrays sub limit place (length s) (place_of s) (found (d.Omitted place) 1 s)) (arrays_sound (length s) s _ g.omitted) (λ r f. record { derives = g.abstract_arrays f.derives })
 
-    direct_sound : (s : List Lexeme) → IfSome (abstract_direct sub place s) (Found (IsAbstractDirect place) s)
+    direct_sound : (s : List Lexeme) → IfSome (abstract_direct sub limit place s) (Found (IsAbstractDirect place) s)
     direct_sound [] = arrays_whole []
     direct_sound (at (k.Punct p.LeftParen) o ∷ t) = group_sound o t (stars t).0 (stars t).1 (stars_sound t)
     direct_sound (o ∷ t) = arrays_whole (o ∷ t)
 
     pointer_sound : (o : Token) (t : List Lexeme) (ws : List PointerWord) (s : List Lexeme) → ArePointerWords t ws s →
-        IfSome (abstract_pointer_of sub place o.place (ws, s)) (Found (IsAbstract place) (at (k.Punct p.Star) o ∷ t))
+        IfSome (abstract_pointer_of sub limit place o.place (ws, s)) (Found (IsAbstract place) (at (k.Punct p.Star) o ∷ t))
     unfolding abstract_pointer
-    pointer_sound o t ws s d = bind_all _ _ (abstract_direct sub place s) _ (direct_sound s) (λ x f. record { derives = g.abstract_pointer d f.derives })
+    pointer_sound o t ws s d = bind_all _ _ (abstract_direct sub limit place s) _ (direct_sound s) (λ x f. record { derives = g.abstract_pointer d f.derives })
 
-    plain_whole : (s : List Lexeme) → IfSome (abstract_direct sub place s) (Found (IsAbstract place) s)
-    plain_whole s = weaken _ _ (abstract_direct sub place s) (direct_sound s) (λ r f. record { derives = g.abstract_plain f.derives })
+    plain_whole : (s : List Lexeme) → IfSome (abstract_direct sub limit place s) (Found (IsAbstract place) s)
+    plain_whole s = weaken _ _ (abstract_direct sub limit place s) (direct_sound s) (λ r f. record { derives = g.abstract_plain f.derives })
 
-    pub abstract_sound : (s : List Lexeme) → IfSome (abstract sub place s) (Found (IsAbstract place) s)
+    pub abstract_sound : (s : List Lexeme) → IfSome (abstract sub limit place s) (Found (IsAbstract place) s)
     abstract_sound [] = plain_whole []
     abstract_sound (at (k.Punct p.Star) o ∷ t) = pointer_sound o t (pointer_words t).0 (pointer_words t).1 (pointer_words_sound t)
     abstract_sound (o ∷ t) = plain_whole (o ∷ t)
@@ -170,7 +171,7 @@ module _ (n : ℕ) (sub : ℕ → List Lexeme → Option (Read Expr)) (sound : (
   unfolding type_name
   type_name_sound limit s =
       bind_all _ _ (specs_in plain_spec inner s) _ (specs_in_sound inner plain_spec (plain_sound_in inner) s) (λ xs d.
-      bind_all _ _ (abstract sub (place_of s) xs.rest) _ (abstract_sound (place_of s) xs.rest) (λ x f.
+      bind_all _ _ (abstract sub (suc limit) (place_of s) xs.rest) _ (abstract_sound (suc limit) (place_of s) xs.rest) (λ x f.
       if_all _ (nat_le (suc (max xs.height x.height)) limit) _ _ (λ low. record { derives = g.type_name d.derives f.derives; low = leb-true _ _ low }) (λ _. tt)))
 
   -- ---- Expressions

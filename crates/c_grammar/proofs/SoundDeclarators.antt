@@ -1,6 +1,6 @@
 -- What is read is in the grammar: declarators and specifiers with bodies.
-use Rattle.std.proofs.Common.{◌≡◌, ℕ, zero, suc, List, [], ◌∷◌, length, Option, Some, None, true, false, refl, subst}
-use Rattle.std.specs.Prelude.{IfSome, if◌then◌else◌}
+use Rattle.std.proofs.Common.{◌≡◌, ℕ, zero, suc, max, List, [], ◌∷◌, length, Option, Some, None, true, false, refl, subst}
+use Rattle.std.specs.Prelude.{IfSome, if◌then◌else◌, nat_le}
 use Rattle.c_tokens.specs.declared.puncts.Punct.TheVariants as p
 use Rattle.c_tokens.specs.declared.tokens.Token.{Token}
 use Rattle.c_tree.specs.declared.nodes.Expr.{Expr}
@@ -30,45 +30,45 @@ pub record FoundNamed (s : List Lexeme) (r : Read Named) : Type 0 where
 pub record FoundDirect (s : List Lexeme) (r : Read Named) : Type 0 where
   pub derives : IsDirect s r.tree.tree r.tree.declared r.height r.rest
 
-module _ (n : ℕ) (sub : ℕ → List Lexeme → Option (Read Expr)) (sound : (to : ℕ) (s : List Lexeme) → IfSome (sub to s) (Spells n to s))
+module _ (n limit : ℕ) (sub : ℕ → List Lexeme → Option (Read Expr)) (sound : (to : ℕ) (s : List Lexeme) → IfSome (sub to s) (Spells n to s))
     (deep : List Lexeme → Option (Read Named)) (deep_sound : (s : List Lexeme) → IfSome (deep s) (FoundNamed s)) where
-  named_sound : (s : List Lexeme) (xs : Read Specs) → AreCounted inner s xs → IfSome (param_named sub deep xs) (Found IsParam s)
+  named_sound : (s : List Lexeme) (xs : Read Specs) → AreCounted inner s xs → IfSome (param_named limit sub deep xs) (Found IsParam s)
   unfolding param_named
   named_sound s xs d = bind_all _ _ (deep xs.rest) _ (deep_sound xs.rest) (λ x f. record { derives = g.param_named d.derives f.derives })
 
-  abstract_param_sound : (s : List Lexeme) (xs : Read Specs) → AreCounted inner s xs → IfSome (param_abstract sub deep (place_of s) xs) (Found IsParam s)
+  abstract_param_sound : (s : List Lexeme) (xs : Read Specs) → AreCounted inner s xs → IfSome (param_abstract limit sub deep (place_of s) xs) (Found IsParam s)
   unfolding param_abstract
   abstract_param_sound s xs d =
-      bind_all _ _ (abstract sub (place_of s) xs.rest) _ (abstract_sound n sub sound (place_of s) xs.rest) (λ x f. record { derives = g.param_abstract d.derives f.derives })
+      bind_all _ _ (abstract sub limit (place_of s) xs.rest) _ (abstract_sound n sub sound limit (place_of s) xs.rest) (λ x f. record { derives = g.param_abstract d.derives f.derives })
 
-  param_sound : (s : List Lexeme) → IfSome (param sub deep s) (Found IsParam s)
+  param_sound : (s : List Lexeme) → IfSome (param limit sub deep s) (Found IsParam s)
   unfolding param
   param_sound s =
       bind_all _ _ (specs_in plain_spec inner s) _ (specs_in_sound inner plain_spec (plain_sound_in inner) s) (λ xs d.
       if_all _ (names xs.rest) _ _ (λ _. named_sound s xs d) (λ _. abstract_param_sound s xs d))
 
   params_behind_sound : (later : List Lexeme → Option (Read (List Param))) → ((s : List Lexeme) → IfSome (later s) (Found AreParamsSome s)) → (s : List Lexeme) (x : Read Param) (t : List Lexeme) →
-      IsParam s x.tree x.height t → IfSome (params_behind sub deep later x t) (Found AreParamsSome s)
+      IsParam s x.tree x.height t → IfSome (params_behind limit sub deep later x t) (Found AreParamsSome s)
   params_behind_sound later h s x [] d = tt
   params_behind_sound later h s x (at (k.Punct p.Comma) o ∷ t) d = bind_all _ _ (later t) _ (h t) (λ xs f. record { derives = g.more_params d f.derives })
   params_behind_sound later h s x (at (k.Punct p.RightParen) o ∷ t) d = record { derives = g.last_param d }
   params_behind_sound later h s x _ d = tt
 
-  params_some_sound : (m : ℕ) (s : List Lexeme) → IfSome (params_some sub deep m s) (Found AreParamsSome s)
+  params_some_sound : (m : ℕ) (s : List Lexeme) → IfSome (params_some limit sub deep m s) (Found AreParamsSome s)
   unfolding params_some
   params_some_sound zero s = tt
-  params_some_sound (suc m) s = bind_all _ _ (param sub deep s) _ (param_sound s) (λ x d. params_behind_sound (params_some sub deep m) (params_some_sound m) s x x.rest d.derives)
+  params_some_sound (suc m) s = bind_all _ _ (param limit sub deep s) _ (param_sound s) (λ x d. params_behind_sound (params_some limit sub deep m) (params_some_sound m) s x x.rest d.derives)
 
-  params_list_sound : (s : List Lexeme) → is_void_alone s ≡ false → IfSome (params_list sub deep s) (Found AreParams s)
+  params_list_sound : (s : List Lexeme) → is_void_alone s ≡ false → IfSome (params_list limit sub deep s) (Found AreParams s)
   unfolding params_list
-  params_list_sound s e = bind_all _ _ (params_some sub deep (length s) s) _ (params_some_sound (length s) s) (λ xs d. record { derives = g.some_params e d.derives })
+  params_list_sound s e = bind_all _ _ (params_some limit sub deep (length s) s) _ (params_some_sound (length s) s) (λ xs d. record { derives = g.some_params e d.derives })
 
-  params_void_sound : (o : Token) (t : List Lexeme) → IfSome (params_void sub deep o t) (Found AreParams (at (k.Word w.Void) o ∷ t))
+  params_void_sound : (o : Token) (t : List Lexeme) → IfSome (params_void limit sub deep o t) (Found AreParams (at (k.Word w.Void) o ∷ t))
   params_void_sound o [] = params_list_sound (at (k.Word w.Void) o ∷ []) refl
   params_void_sound o (at (k.Punct p.RightParen) q ∷ t) = record { derives = g.void_params }
   params_void_sound o (q ∷ t) = params_list_sound (at (k.Word w.Void) o ∷ q ∷ t) refl
 
-  pub params_in_sound : (s : List Lexeme) → IfSome (params_in sub deep s) (Found AreParams s)
+  pub params_in_sound : (s : List Lexeme) → IfSome (params_in limit sub deep s) (Found AreParams s)
   params_in_sound [] = params_list_sound [] refl
   params_in_sound (at (k.Punct p.RightParen) o ∷ t) = record { derives = g.no_params }
   params_in_sound (at (k.Word w.Void) o ∷ t) = params_void_sound o t
@@ -77,61 +77,63 @@ module _ (n : ℕ) (sub : ℕ → List Lexeme → Option (Read Expr)) (sound : (
   -- ---- Declarators
 
   suffixes_behind_sound : (later : Read Named → Option (Read Named)) (s : List Lexeme) → ((x : Read Named) → FoundDirect s x → IfSome (later x) (FoundDirect s)) →
-      (x : Read Named) (t : List Lexeme) → x.rest ≡ t → FoundDirect s x → IfSome (suffixes_behind sub deep later (place_of s) x t) (FoundDirect s)
+      (x : Read Named) (t : List Lexeme) → x.rest ≡ t → FoundDirect s x → IfSome (suffixes_behind limit sub deep later (place_of s) x t) (FoundDirect s)
   suffixes_behind_sound later s h x [] e d = d
   suffixes_behind_sound later s h x (at (k.Punct p.LeftBracket) o ∷ t) e d =
       bind_all _ _ (bound sub t) _ (bound_sound n sub sound t) (λ y f.
-      h _ (record { derives = g.direct_array (subst (IsDirect s x.tree.tree x.tree.declared x.height) e d.derives) f.derives }))
+      if_all _ (nat_le (suc (max x.height y.height)) limit) _ _
+      (λ _. h _ (record { derives = g.direct_array (subst (IsDirect s x.tree.tree x.tree.declared x.height) e d.derives) f.derives })) (λ _. tt))
   suffixes_behind_sound later s h x (at (k.Punct p.LeftParen) o ∷ t) e d =
-      bind_all _ _ (params_in sub deep t) _ (params_in_sound t) (λ y f.
-      h _ (record { derives = g.direct_function (subst (IsDirect s x.tree.tree x.tree.declared x.height) e d.derives) f.derives }))
+      bind_all _ _ (params_in limit sub deep t) _ (params_in_sound t) (λ y f.
+      if_all _ (nat_le (suc (max x.height y.height)) limit) _ _
+      (λ _. h _ (record { derives = g.direct_function (subst (IsDirect s x.tree.tree x.tree.declared x.height) e d.derives) f.derives })) (λ _. tt))
   suffixes_behind_sound later s h x _ e d = d
 
-  suffixes_sound : (m : ℕ) (s : List Lexeme) (x : Read Named) → FoundDirect s x → IfSome (suffixes sub deep m (place_of s) x) (FoundDirect s)
+  suffixes_sound : (m : ℕ) (s : List Lexeme) (x : Read Named) → FoundDirect s x → IfSome (suffixes limit sub deep m (place_of s) x) (FoundDirect s)
   unfolding suffixes
   suffixes_sound zero s x d = suffixes_behind_sound (λ x. None) s (λ x d. tt) x x.rest refl d
-  suffixes_sound (suc m) s x d = suffixes_behind_sound (suffixes sub deep m (place_of s)) s (suffixes_sound m s) x x.rest refl d
+  suffixes_sound (suc m) s x d = suffixes_behind_sound (suffixes limit sub deep m (place_of s)) s (suffixes_sound m s) x x.rest refl d
 
   module _ (inside : List Lexeme → Option (Read Named)) (inside_sound : (s : List Lexeme) → IfSome (inside s) (FoundNamed s)) where
-    grouped_sound : (o : Token) (t : List Lexeme) → IfSome (grouped sub deep inside t) (FoundDirect (at (k.Punct p.LeftParen) o ∷ t))
+    grouped_sound : (o : Token) (t : List Lexeme) → IfSome (grouped limit sub deep inside t) (FoundDirect (at (k.Punct p.LeftParen) o ∷ t))
     unfolding grouped
     grouped_sound o t =
         bind_all _ _ (inside t) _ (inside_sound t) (λ x d.
         bind_all _ _ (after_right_paren x.rest) _ (after_right_paren_sound x.rest) (λ u close.
         record { derives = g.direct_parens (subst (IsDeclarator t x.tree.tree x.tree.declared x.height) close.1 d.derives) }))
 
-    pub first_sound : (s : List Lexeme) → IfSome (first sub deep inside s) (FoundDirect s)
+    pub first_sound : (s : List Lexeme) → IfSome (first limit sub deep inside s) (FoundDirect s)
     first_sound [] = tt
     first_sound (at k.Name o ∷ t) = record { derives = g.direct_name }
     first_sound (at (k.Punct p.LeftParen) o ∷ t) = grouped_sound o t
     first_sound _ = tt
 
-    direct_sound : (s : List Lexeme) → IfSome (direct sub deep inside s) (FoundDirect s)
+    direct_sound : (s : List Lexeme) → IfSome (direct limit sub deep inside s) (FoundDirect s)
     unfolding direct
-    direct_sound s = bind_all _ _ (first sub deep inside s) _ (first_sound s) (λ x d. suffixes_sound (length s) s x d)
+    direct_sound s = bind_all _ _ (first limit sub deep inside s) _ (first_sound s) (λ x d. suffixes_sound (length s) s x d)
 
     pointer_sound : (o : Token) (t : List Lexeme) (ws : List PointerWord) (s : List Lexeme) → ArePointerWords t ws s →
-        IfSome (pointer_of sub deep inside o.place (ws, s)) (FoundNamed (at (k.Punct p.Star) o ∷ t))
+        IfSome (pointer_of limit sub deep inside o.place (ws, s)) (FoundNamed (at (k.Punct p.Star) o ∷ t))
     unfolding pointer_to
-    pointer_sound o t ws s d = bind_all _ _ (direct sub deep inside s) _ (direct_sound s) (λ x f. record { derives = g.declarator_pointer d f.derives })
+    pointer_sound o t ws s d = bind_all _ _ (direct limit sub deep inside s) _ (direct_sound s) (λ x f. record { derives = g.declarator_pointer d f.derives })
 
-    plain_sound : (s : List Lexeme) → IfSome (direct sub deep inside s) (FoundNamed s)
-    plain_sound s = weaken _ _ (direct sub deep inside s) (direct_sound s) (λ x d. record { derives = g.declarator_plain d.derives })
+    plain_sound : (s : List Lexeme) → IfSome (direct limit sub deep inside s) (FoundNamed s)
+    plain_sound s = weaken _ _ (direct limit sub deep inside s) (direct_sound s) (λ x d. record { derives = g.declarator_plain d.derives })
 
-    whole_by_sound : (s : List Lexeme) → IfSome (whole_by sub deep inside s) (FoundNamed s)
+    whole_by_sound : (s : List Lexeme) → IfSome (whole_by limit sub deep inside s) (FoundNamed s)
     whole_by_sound [] = plain_sound []
     whole_by_sound (at (k.Punct p.Star) o ∷ t) = pointer_sound o t (pointer_words t).0 (pointer_words t).1 (pointer_words_sound t)
     whole_by_sound (o ∷ t) = plain_sound (o ∷ t)
 
-  pub whole_sound : (m : ℕ) (s : List Lexeme) → IfSome (whole sub deep m s) (FoundNamed s)
+  pub whole_sound : (m : ℕ) (s : List Lexeme) → IfSome (whole limit sub deep m s) (FoundNamed s)
   unfolding whole
   whole_sound zero s = tt
-  whole_sound (suc m) s = whole_by_sound (whole sub deep m) (whole_sound m) s
+  whole_sound (suc m) s = whole_by_sound (whole limit sub deep m) (whole_sound m) s
 
 pub declarator_sound : (n : ℕ) (s : List Lexeme) → IfSome (declarator n s) (FoundNamed s)
 unfolding declarator
 declarator_sound zero s = tt
-declarator_sound (suc n) s = whole_sound n (expression n) (expression_sound n) (declarator n) (declarator_sound n) (suc (length s)) s
+declarator_sound (suc n) s = whole_sound n (suc n) (expression n) (expression_sound n) (declarator n) (declarator_sound n) (suc (length s)) s
 
 -- ---- Specifiers with bodies
 

@@ -1,4 +1,5 @@
--- How expressions are read: functions that compute what the grammar has, step by step. No public contract names them.
+-- How expressions are read: functions that compute what the grammar has, step by step. The contracts of the parsers name
+-- them, and proofs/ ties them to the grammar: what they find is in it, and what is in it is found.
 use Rattle.std.specs.Prelude.{ℕ, zero, suc, max, List, [], ◌∷◌, ◌++◌, Option, Some, None, Bool, true, false, nat_le, nat_lt, if◌then◌else◌, length}
 use Rattle.fc_base.specs.declared.refusals.Place.{Place}
 use Rattle.c_tokens.specs.declared.puncts.Punct.{Punct}
@@ -343,10 +344,12 @@ module _ (sub : ℕ → List Lexeme → Option (Read Expr)) where
   bound (at (k.Punct p.RightBracket) o ∷ t) = Some (found None 0 t)
   bound s = bound_some s
 
-  module _ (place : Place) where
+  -- with the most that a tree may be high
+  module _ (limit : ℕ) (place : Place) where
     -- the number bounds the turns
     abbrev pub arrays_behind : (Read Declarator → Option (Read Declarator)) → Place → Read Declarator → List Lexeme → Option (Read Declarator)
-    arrays_behind later start x (at (k.Punct p.LeftBracket) o ∷ t) = bound t >>= λ y. later (found (d.Array x.tree y.tree start) (suc (max x.height y.height)) y.rest)
+    arrays_behind later start x (at (k.Punct p.LeftBracket) o ∷ t) =
+        bound t >>= λ y. if nat_le (suc (max x.height y.height)) limit then later (found (d.Array x.tree y.tree start) (suc (max x.height y.height)) y.rest) else None
     arrays_behind later start x _ = Some x
 
     unfoldable pub arrays : ℕ → Place → Read Declarator → Option (Read Declarator)
@@ -387,7 +390,7 @@ module _ (limit : ℕ) (sub : ℕ → List Lexeme → Option (Read Expr)) where
   unfoldable pub type_name : List Lexeme → Option (Read TypeName)
   type_name s = do
     xs ← specs_in plain_spec inner s
-    x ← abstract sub (place_of s) xs.rest
+    x ← abstract sub (suc limit) (place_of s) xs.rest
     bounded limit (found (record { specs = xs.tree.specs; declarator = x.tree; place = place_of s }) (suc (max xs.height x.height)) x.rest)
 
 -- ---- Expressions

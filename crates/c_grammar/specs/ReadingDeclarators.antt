@@ -1,5 +1,6 @@
--- How declarators and specifiers with bodies are read. No public contract names these functions.
-use Rattle.std.specs.Prelude.{ℕ, zero, suc, max, List, [], ◌∷◌, Option, Some, None, Bool, true, false, not, if◌then◌else◌, length}
+-- How declarators and specifiers with bodies are read: functions that compute what the grammar has, as in Reading. The contracts
+-- of the parsers name them.
+use Rattle.std.specs.Prelude.{ℕ, zero, suc, max, nat_le, List, [], ◌∷◌, Option, Some, None, Bool, true, false, not, if◌then◌else◌, length}
 use Rattle.fc_base.specs.declared.refusals.Place.{Place}
 use Rattle.c_tokens.specs.declared.puncts.Punct.TheVariants as p
 use Rattle.c_tokens.specs.declared.tokens.Token.{Token}
@@ -48,13 +49,13 @@ abbrev pub names : List Lexeme → Bool
 names (at (k.Punct p.Star) o ∷ t) = names_direct (pointer_words t).1
 names s = names_direct s
 
--- with readers of expressions and of declarators in parameters
-module _ (sub : ℕ → List Lexeme → Option (Read Expr)) (deep : List Lexeme → Option (Read Named)) where
+-- with the most that a tree may be high, and readers of expressions and of declarators in parameters
+module _ (limit : ℕ) (sub : ℕ → List Lexeme → Option (Read Expr)) (deep : List Lexeme → Option (Read Named)) where
   unfoldable pub param_named : Read Specs → Option (Read Param)
   param_named xs = deep xs.rest >>= λ x. Some (found (record { specs = xs.tree.specs; declarator = x.tree.tree }) (max xs.height x.height) x.rest)
 
   unfoldable pub param_abstract : Place → Read Specs → Option (Read Param)
-  param_abstract place xs = abstract sub place xs.rest >>= λ x. Some (found (record { specs = xs.tree.specs; declarator = x.tree }) (max xs.height x.height) x.rest)
+  param_abstract place xs = abstract sub limit place xs.rest >>= λ x. Some (found (record { specs = xs.tree.specs; declarator = x.tree }) (max xs.height x.height) x.rest)
 
   unfoldable pub param : List Lexeme → Option (Read Param)
   param s = specs_in plain_spec inner s >>= λ xs. if names xs.rest then param_named xs else param_abstract (place_of s) xs
@@ -86,9 +87,11 @@ module _ (sub : ℕ → List Lexeme → Option (Read Expr)) (deep : List Lexeme 
   -- how a declarator goes on; the number bounds the turns
   abbrev pub suffixes_behind : (Read Named → Option (Read Named)) → Place → Read Named → List Lexeme → Option (Read Named)
   suffixes_behind later start x (at (k.Punct p.LeftBracket) o ∷ t) =
-      bound sub t >>= λ y. later (found (as_named (d.Array x.tree.tree y.tree start) (behind x.tree.declared other)) (suc (max x.height y.height)) y.rest)
+      bound sub t >>= λ y.
+      if nat_le (suc (max x.height y.height)) limit then later (found (as_named (d.Array x.tree.tree y.tree start) (behind x.tree.declared other)) (suc (max x.height y.height)) y.rest) else None
   suffixes_behind later start x (at (k.Punct p.LeftParen) o ∷ t) =
-      params_in t >>= λ y. later (found (as_named (d.Function x.tree.tree y.tree start) (behind x.tree.declared parameters)) (suc (max x.height y.height)) y.rest)
+      params_in t >>= λ y.
+      if nat_le (suc (max x.height y.height)) limit then later (found (as_named (d.Function x.tree.tree y.tree start) (behind x.tree.declared parameters)) (suc (max x.height y.height)) y.rest) else None
   suffixes_behind later start x _ = Some x
 
   unfoldable pub suffixes : ℕ → Place → Read Named → Option (Read Named)
@@ -126,7 +129,7 @@ module _ (sub : ℕ → List Lexeme → Option (Read Expr)) (deep : List Lexeme 
 -- a declarator whose tree is at most so high
 unfoldable pub declarator : ℕ → List Lexeme → Option (Read Named)
 declarator zero s = None
-declarator (suc n) s = whole (expression n) (declarator n) (suc (length s)) s
+declarator (suc n) s = whole (suc n) (expression n) (declarator n) (suc (length s)) s
 
 -- ---- Specifiers with bodies
 

@@ -1,4 +1,5 @@
--- How external declarations and files are read. No public contract names these functions.
+-- How external declarations and files are read: functions that compute what the grammar has, as in Reading. The contracts
+-- of the parsers name them.
 use Rattle.std.specs.Prelude.{ℕ, zero, suc, max, ◌-◌, List, [], ◌∷◌, ◌++◌, map, drop, length, Option, Some, None, Ok, Err}
 use Rattle.fc_base.specs.declared.refusals.Place.{Place}
 use Rattle.c_tokens.specs.declared.puncts.Punct.TheVariants as p

@@ -1,4 +1,5 @@
--- How initialisers, declarations and statements are read. No public contract names these functions.
+-- How initialisers, declarations and statements are read: functions that compute what the grammar has, as in Reading. The contracts
+-- of the parsers name them.
 use Rattle.std.specs.Prelude.{ℕ, zero, suc, max, List, [], ◌∷◌, Option, Some, None, Bool, true, false, if◌then◌else◌, length}
 use Rattle.fc_base.specs.declared.refusals.Place.{Place}
 use Rattle.c_tokens.specs.declared.puncts.Punct.TheVariants as p

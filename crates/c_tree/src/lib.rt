@@ -3,6 +3,7 @@
 
 mod externals;
 mod laws;
+mod limits;
 mod nodes;
 mod operators;
 mod programs;
@@ -14,6 +15,7 @@ mod weights;
 
 pub use externals::{External, FileTree};
 pub use laws::counts_law;
+pub use limits::HEIGHT_LIMIT;
 pub use nodes::{
     Aggregate, Attribute, BasicWord, Declarator, Enumerator, Expr, ExprKind, Identifier,
     MemberDecl, Param, Params, PointerWord, Spec, TypeName,

@@ -8,12 +8,12 @@ pub declarator-zero : (depth : ℕ) (s : List Lexeme) → depth ≡ 0 → declar
 unfolding declarator
 declarator-zero depth s e = rw e refl
 
-pub declarator_deeper : (depth : ℕ) (s : List Lexeme) → 0 < depth → declarator depth s ≡ whole (expression (depth - 1)) (declarator (depth - 1)) (suc (length s)) s
+pub declarator_deeper : (depth : ℕ) (s : List Lexeme) → 0 < depth → declarator depth s ≡ whole (suc (depth - 1)) (expression (depth - 1)) (declarator (depth - 1)) (suc (length s)) s
 unfolding declarator
 declarator_deeper zero s some = absurd (omega arith)
 declarator_deeper (suc n) s some =
     let down : n ≡ suc n - 1 = omega arith in
-    ap (λ m. whole (expression m) (declarator m) (suc (length s)) s) down
+    ap (λ m. whole (suc m) (expression m) (declarator m) (suc (length s)) s) down
 
 pub outer_spec-zero : (depth : ℕ) (s : List Lexeme) → depth ≡ 0 → outer_spec depth s ≡ None
 unfolding outer_spec

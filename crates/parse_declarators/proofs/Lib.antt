@@ -1,4 +1,3 @@
-mod Binds
 mod Lengths
 mod Suffixes
 mod Openings

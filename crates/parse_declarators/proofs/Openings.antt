@@ -1,5 +1,6 @@
 -- The steps of a loop into the parentheses of a declarator, and of a loop out of them.
 use Rattle.std.proofs.Common.{◌≡◌, ℕ, zero, suc, ◌≤◌, List, [], ◌∷◌, ◌++◌, length, Option, Some, None, Bool, true, false, refl, sym, ap, ◌∙◌, arith}
+use Rattle.std.proofs.lemmas.Bool.{false≢true}
 use Rattle.std.specs.Prelude.{IfSome}
 use Rattle.c_tokens.specs.declared.puncts.Punct.TheVariants as p
 use Rattle.c_tokens.specs.declared.tokens.Token.{Token}
@@ -10,46 +11,38 @@ use Rattle.c_grammar.specs.ReadingDeclarators.{Named, grouped, first, direct, po
 use Rattle.c_grammar.proofs.Basics.{weaken}
 use Rattle.parse_declarators.specs.declared.declarators.Pointer.{Pointer}
 use Rattle.parse_declarators.specs.declared.declarators.Opening.{Opening}
-use Rattle.parse_declarators.specs.Suffixes.{pointer_at, opening_at, group_begins, name_at, pointed, closed, in_parens, around}
-use Rattle.parse_declarators.proofs.Binds.{bind_same, bind_bind}
+use Rattle.parse_declarators.specs.Suffixes.{pointer_at, opening_at, left_paren_at, name_at, pointed, closed, in_parens, around}
+use Rattle.parse_tokens.proofs.Binds.{bind_same, bind_bind}
+use Rattle.parse_parts.proofs.Misses.{nothing_found, some_same}
 use Rattle.parse_declarators.proofs.Lengths.{first_shorter}
 use Rattle.parse_declarators.proofs.Suffixes.{suffixes_alike}
 
-falsehood : false ≡ true → ⊥
-falsehood e = cc
-
-nothing_some : {t : List Lexeme} → None ≡ Some t → ⊥
-nothing_some e = cc
-
-same_some : {s t : List Lexeme} → Some s ≡ Some t → s ≡ t
-same_some e = cc
-
 pub paren_taken : (s t : List Lexeme) → after_right_paren s ≡ Some t → length s ≡ suc (length t)
-paren_taken [] t e = absurd (nothing_some e)
-paren_taken (at (k.Punct p.RightParen) o ∷ s) t e = ap (λ r. suc (length r)) (same_some e)
-paren_taken (o ∷ s) t e = absurd (nothing_some e)
+paren_taken [] t e = absurd (nothing_found e)
+paren_taken (at (k.Punct p.RightParen) o ∷ s) t e = ap (λ r. suc (length r)) (some_same e)
+paren_taken (o ∷ s) t e = absurd (nothing_found e)
 
 module _ (n : ℕ) where
   pub around_more : (openings : List Opening) (opening : Opening) (r : Option (Read Named)) →
-      around (expression n) (declarator n) (openings ++ opening ∷ []) r ≡ around (expression n) (declarator n) openings (in_parens (expression n) (declarator n) opening r)
+      around (suc n) (expression n) (declarator n) (openings ++ opening ∷ []) r ≡ around (suc n) (expression n) (declarator n) openings (in_parens (suc n) (expression n) (declarator n) opening r)
   unfolding around
   around_more [] opening r = refl
-  around_more (other ∷ openings) opening r = ap (in_parens (expression n) (declarator n) other) (around_more openings opening r)
+  around_more (other ∷ openings) opening r = ap (in_parens (suc n) (expression n) (declarator n) other) (around_more openings opening r)
 
-  pub around_none : (openings : List Opening) → around (expression n) (declarator n) openings None ≡ None
+  pub around_none : (openings : List Opening) → around (suc n) (expression n) (declarator n) openings None ≡ None
   unfolding around
   around_none [] = refl
-  around_none (opening ∷ openings) = ap (in_parens (expression n) (declarator n) opening) (around_none openings)
+  around_none (opening ∷ openings) = ap (in_parens (suc n) (expression n) (declarator n) opening) (around_none openings)
 
   -- a direct declarator, with the pointer before it
   direct_closed : (m : ℕ) (pointer : Option Pointer) (s : List Lexeme) →
-      (direct (expression n) (declarator n) (whole (expression n) (declarator n) m) s >>= λ x. Some (pointed pointer x))
-      ≡ (first (expression n) (declarator n) (whole (expression n) (declarator n) m) s >>= closed (expression n) (declarator n) (record { pointer = pointer; start = place_of s }))
+      (direct (suc n) (expression n) (declarator n) (whole (suc n) (expression n) (declarator n) m) s >>= λ x. Some (pointed pointer x))
+      ≡ (first (suc n) (expression n) (declarator n) (whole (suc n) (expression n) (declarator n) m) s >>= closed (suc n) (expression n) (declarator n) (record { pointer = pointer; start = place_of s }))
   unfolding direct
   direct_closed m pointer s =
-      bind_bind (first (expression n) (declarator n) (whole (expression n) (declarator n) m) s) _ _
-      ∙ bind_same (first (expression n) (declarator n) (whole (expression n) (declarator n) m) s) _ _
-      (weaken _ _ (first (expression n) (declarator n) (whole (expression n) (declarator n) m) s) (first_shorter n m s) (λ x f.
+      bind_bind (first (suc n) (expression n) (declarator n) (whole (suc n) (expression n) (declarator n) m) s) _ _
+      ∙ bind_same (first (suc n) (expression n) (declarator n) (whole (suc n) (expression n) (declarator n) m) s) _ _
+      (weaken _ _ (first (suc n) (expression n) (declarator n) (whole (suc n) (expression n) (declarator n) m) s) (first_shorter n m s) (λ x f.
       ap (λ r. r >>= λ y. Some (pointed pointer y)) (suffixes_alike n (place_of s) (length s) (length x.rest) x (omega (arith, f.shorter)) (omega arith))))
 
   made_same : {A : Type 0} (o : Option A) → o ≡ (o >>= λ x. Some x)
@@ -57,8 +50,8 @@ module _ (n : ℕ) where
   made_same (Some x) = refl
 
   pub whole_opens : (m : ℕ) (s : List Lexeme) →
-      whole (expression n) (declarator n) (suc m) s
-      ≡ (first (expression n) (declarator n) (whole (expression n) (declarator n) m) (opening_at s).1 >>= closed (expression n) (declarator n) (opening_at s).0)
+      whole (suc n) (expression n) (declarator n) (suc m) s
+      ≡ (first (suc n) (expression n) (declarator n) (whole (suc n) (expression n) (declarator n) m) (opening_at s).1 >>= closed (suc n) (expression n) (declarator n) (opening_at s).0)
   unfolding whole pointer_to pointer_words
   whole_opens m [] = made_same _ ∙ direct_closed m None []
   whole_opens m (at (k.Punct p.Star) o ∷ t) =
@@ -66,15 +59,15 @@ module _ (n : ℕ) where
   whole_opens m (o ∷ t) = made_same _ ∙ direct_closed m None (o ∷ t)
 
   in_parens_grouped : (opening : Opening) (m : ℕ) (t : List Lexeme) →
-      (grouped (expression n) (declarator n) (whole (expression n) (declarator n) m) t >>= closed (expression n) (declarator n) opening)
-      ≡ in_parens (expression n) (declarator n) opening (whole (expression n) (declarator n) m t)
+      (grouped (suc n) (expression n) (declarator n) (whole (suc n) (expression n) (declarator n) m) t >>= closed (suc n) (expression n) (declarator n) opening)
+      ≡ in_parens (suc n) (expression n) (declarator n) opening (whole (suc n) (expression n) (declarator n) m t)
   unfolding grouped
   in_parens_grouped opening m t =
-      bind_bind (whole (expression n) (declarator n) m t) _ _
-      ∙ bind_same (whole (expression n) (declarator n) m t) _ _ (each (whole (expression n) (declarator n) m t))
+      bind_bind (whole (suc n) (expression n) (declarator n) m t) _ _
+      ∙ bind_same (whole (suc n) (expression n) (declarator n) m t) _ _ (each (whole (suc n) (expression n) (declarator n) m t))
     where
-      each : (o : Option (Read Named)) → IfSome o (λ x. ((after_right_paren x.rest >>= λ u. Some (found x.tree x.height u)) >>= closed (expression n) (declarator n) opening)
-          ≡ (after_right_paren x.rest >>= λ u. closed (expression n) (declarator n) opening (found x.tree x.height u)))
+      each : (o : Option (Read Named)) → IfSome o (λ x. ((after_right_paren x.rest >>= λ u. Some (found x.tree x.height u)) >>= closed (suc n) (expression n) (declarator n) opening)
+          ≡ (after_right_paren x.rest >>= λ u. closed (suc n) (expression n) (declarator n) opening (found x.tree x.height u)))
       each None = tt
       each (Some x) = bind_bind (after_right_paren x.rest) _ _
 
@@ -82,24 +75,24 @@ module _ (n : ℕ) where
   pub record Inside (read : Option (Read Named)) (openings : List Opening) (opening : Opening) (s : List Lexeme) : Type 0 where
     pub turns : ℕ
     pub enough : length s ≤ turns
-    pub same : read ≡ around (expression n) (declarator n) openings (first (expression n) (declarator n) (whole (expression n) (declarator n) turns) s >>= closed (expression n) (declarator n) opening)
+    pub same : read ≡ around (suc n) (expression n) (declarator n) openings (first (suc n) (expression n) (declarator n) (whole (suc n) (expression n) (declarator n) turns) s >>= closed (suc n) (expression n) (declarator n) opening)
 
   pub inside_begins : (s t : List Lexeme) (opening : Opening) → opening_at s ≡ (opening, t) → length t ≤ length s →
-      Inside (whole (expression n) (declarator n) (suc (length s)) s) [] opening t
+      Inside (whole (suc n) (expression n) (declarator n) (suc (length s)) s) [] opening t
   unfolding around
   inside_begins s t opening e low = record {
     turns = length s;
     enough = low;
     same = whole_opens (length s) s
-        ∙ ap (λ r. first (expression n) (declarator n) (whole (expression n) (declarator n) (length s)) r.1 >>= closed (expression n) (declarator n) r.0) e;
+        ∙ ap (λ r. first (suc n) (expression n) (declarator n) (whole (suc n) (expression n) (declarator n) (length s)) r.1 >>= closed (suc n) (expression n) (declarator n) r.0) e;
   }
 
-  group_is : (s t : List Lexeme) → group_begins s ≡ (true, t) → (o : Token) × (s ≡ at (k.Punct p.LeftParen) o ∷ t)
-  group_is [] t e = absurd (falsehood (ap (λ r. r.0) e))
+  group_is : (s t : List Lexeme) → left_paren_at s ≡ (true, t) → (o : Token) × (s ≡ at (k.Punct p.LeftParen) o ∷ t)
+  group_is [] t e = absurd (false≢true (ap (λ r. r.0) e))
   group_is (at (k.Punct p.LeftParen) o ∷ s) t e = (o, ap (λ r. at (k.Punct p.LeftParen) o ∷ r.1) e)
-  group_is (o ∷ s) t e = absurd (falsehood (ap (λ r. r.0) e))
+  group_is (o ∷ s) t e = absurd (false≢true (ap (λ r. r.0) e))
 
-  pub inside_goes : (read : Option (Read Named)) (openings : List Opening) (opening next : Opening) (s t u : List Lexeme) (b : Bool) → group_begins s ≡ (b, t) → b ≡ true →
+  pub inside_goes : (read : Option (Read Named)) (openings : List Opening) (opening next : Opening) (s t u : List Lexeme) (b : Bool) → left_paren_at s ≡ (b, t) → b ≡ true →
       opening_at t ≡ (next, u) → length u ≤ length t → Inside read openings opening s → Inside read (openings ++ opening ∷ []) next u
   inside_goes read openings opening next s t u b group taken_one opens low inside = further inside.turns inside.enough inside.same
     where
@@ -110,70 +103,70 @@ module _ (n : ℕ) where
       taken = ap length is_group.1
 
       further : (m : ℕ) → length s ≤ m →
-          read ≡ around (expression n) (declarator n) openings (first (expression n) (declarator n) (whole (expression n) (declarator n) m) s >>= closed (expression n) (declarator n) opening) →
+          read ≡ around (suc n) (expression n) (declarator n) openings (first (suc n) (expression n) (declarator n) (whole (suc n) (expression n) (declarator n) m) s >>= closed (suc n) (expression n) (declarator n) opening) →
           Inside read (openings ++ opening ∷ []) next u
       further zero few same = absurd (omega (arith, taken))
       further (suc m) few same = record {
         turns = m;
         enough = omega (arith, taken);
         same = same
-            ∙ ap (λ s. around (expression n) (declarator n) openings (first (expression n) (declarator n) (whole (expression n) (declarator n) (suc m)) s >>= closed (expression n) (declarator n) opening)) is_group.1
-            ∙ ap (around (expression n) (declarator n) openings) (in_parens_grouped opening (suc m) t
-            ∙ ap (in_parens (expression n) (declarator n) opening) (whole_opens m t
-            ∙ ap (λ r. first (expression n) (declarator n) (whole (expression n) (declarator n) m) r.1 >>= closed (expression n) (declarator n) r.0) opens))
+            ∙ ap (λ s. around (suc n) (expression n) (declarator n) openings (first (suc n) (expression n) (declarator n) (whole (suc n) (expression n) (declarator n) (suc m)) s >>= closed (suc n) (expression n) (declarator n) opening)) is_group.1
+            ∙ ap (around (suc n) (expression n) (declarator n) openings) (in_parens_grouped opening (suc m) t
+            ∙ ap (in_parens (suc n) (expression n) (declarator n) opening) (whole_opens m t
+            ∙ ap (λ r. first (suc n) (expression n) (declarator n) (whole (suc n) (expression n) (declarator n) m) r.1 >>= closed (suc n) (expression n) (declarator n) r.0) opens))
             ∙ sym (around_more openings opening _);
       }
 
-  first_named : (inside : List Lexeme → Option (Read Named)) (s t : List Lexeme) → group_begins s ≡ (false, t) → first (expression n) (declarator n) inside s ≡ name_at t
+  first_named : (inside : List Lexeme → Option (Read Named)) (s t : List Lexeme) → left_paren_at s ≡ (false, t) → first (suc n) (expression n) (declarator n) inside s ≡ name_at t
   first_named inside [] t e = ap (λ r. name_at r.1) e
-  first_named inside (at (k.Punct p.LeftParen) o ∷ s) t e = absurd (falsehood (sym (ap (λ r. r.0) e)))
+  first_named inside (at (k.Punct p.LeftParen) o ∷ s) t e = absurd (false≢true (sym (ap (λ r. r.0) e)))
   first_named inside (at k.Name o ∷ s) t e = ap (λ r. name_at r.1) e
   first_named inside (o ∷ s) t e = ap (λ r. name_at r.1) e
 
-  pub inside_named : (read : Option (Read Named)) (openings : List Opening) (opening : Opening) (s t : List Lexeme) (b : Bool) → group_begins s ≡ (b, t) → b ≡ false →
-      Inside read openings opening s → read ≡ around (expression n) (declarator n) openings (name_at t >>= closed (expression n) (declarator n) opening)
+  pub inside_named : (read : Option (Read Named)) (openings : List Opening) (opening : Opening) (s t : List Lexeme) (b : Bool) → left_paren_at s ≡ (b, t) → b ≡ false →
+      Inside read openings opening s → read ≡ around (suc n) (expression n) (declarator n) openings (name_at t >>= closed (suc n) (expression n) (declarator n) opening)
   inside_named read openings opening s t b group not_one inside =
       inside.same
-      ∙ ap (λ r. around (expression n) (declarator n) openings (r >>= closed (expression n) (declarator n) opening))
-      (first_named (whole (expression n) (declarator n) inside.turns) s t (group ∙ ap (λ b. (b, t)) not_one))
+      ∙ ap (λ r. around (suc n) (expression n) (declarator n) openings (r >>= closed (suc n) (expression n) (declarator n) opening))
+      (first_named (whole (suc n) (expression n) (declarator n) inside.turns) s t (group ∙ ap (λ b. (b, t)) not_one))
 
   -- ---- The way out
 
   pub around_goes : (openings before : List Opening) (opening : Opening) (x y : Read Named) (u : List Lexeme) → openings ≡ before ++ opening ∷ [] → after_right_paren x.rest ≡ Some u →
-      closed (expression n) (declarator n) opening (found x.tree x.height u) ≡ Some y → around (expression n) (declarator n) openings (Some x) ≡ around (expression n) (declarator n) before (Some y)
+      closed (suc n) (expression n) (declarator n) opening (found x.tree x.height u) ≡ Some y → around (suc n) (expression n) (declarator n) openings (Some x) ≡ around (suc n) (expression n) (declarator n) before (Some y)
   around_goes openings before opening x y u e paren some =
-      ap (λ os. around (expression n) (declarator n) os (Some x)) e ∙ around_more before opening (Some x)
-      ∙ ap (around (expression n) (declarator n) before) (ap (λ o. o >>= λ u. closed (expression n) (declarator n) opening (found x.tree x.height u)) paren ∙ some)
+      ap (λ os. around (suc n) (expression n) (declarator n) os (Some x)) e ∙ around_more before opening (Some x)
+      ∙ ap (around (suc n) (expression n) (declarator n) before) (ap (λ o. o >>= λ u. closed (suc n) (expression n) (declarator n) opening (found x.tree x.height u)) paren ∙ some)
 
   pub around_open : (openings before : List Opening) (opening : Opening) (x : Read Named) → openings ≡ before ++ opening ∷ [] → after_right_paren x.rest ≡ None →
-      around (expression n) (declarator n) openings (Some x) ≡ None
+      around (suc n) (expression n) (declarator n) openings (Some x) ≡ None
   around_open openings before opening x e paren =
-      ap (λ os. around (expression n) (declarator n) os (Some x)) e ∙ around_more before opening (Some x)
-      ∙ ap (around (expression n) (declarator n) before) (ap (λ o. o >>= λ u. closed (expression n) (declarator n) opening (found x.tree x.height u)) paren) ∙ around_none before
+      ap (λ os. around (suc n) (expression n) (declarator n) os (Some x)) e ∙ around_more before opening (Some x)
+      ∙ ap (around (suc n) (expression n) (declarator n) before) (ap (λ o. o >>= λ u. closed (suc n) (expression n) (declarator n) opening (found x.tree x.height u)) paren) ∙ around_none before
 
   pub around_fails : (openings before : List Opening) (opening : Opening) (x : Read Named) (u : List Lexeme) → openings ≡ before ++ opening ∷ [] → after_right_paren x.rest ≡ Some u →
-      closed (expression n) (declarator n) opening (found x.tree x.height u) ≡ None → around (expression n) (declarator n) openings (Some x) ≡ None
+      closed (suc n) (expression n) (declarator n) opening (found x.tree x.height u) ≡ None → around (suc n) (expression n) (declarator n) openings (Some x) ≡ None
   around_fails openings before opening x u e paren none =
-      ap (λ os. around (expression n) (declarator n) os (Some x)) e ∙ around_more before opening (Some x)
-      ∙ ap (around (expression n) (declarator n) before) (ap (λ o. o >>= λ u. closed (expression n) (declarator n) opening (found x.tree x.height u)) paren ∙ none) ∙ around_none before
+      ap (λ os. around (suc n) (expression n) (declarator n) os (Some x)) e ∙ around_more before opening (Some x)
+      ∙ ap (around (suc n) (expression n) (declarator n) before) (ap (λ o. o >>= λ u. closed (suc n) (expression n) (declarator n) opening (found x.tree x.height u)) paren ∙ none) ∙ around_none before
 
-  pub around_over : (openings : List Opening) (x : Read Named) → openings ≡ [] → around (expression n) (declarator n) openings (Some x) ≡ Some x
+  pub around_over : (openings : List Opening) (x : Read Named) → openings ≡ [] → around (suc n) (expression n) (declarator n) openings (Some x) ≡ Some x
   unfolding around
-  around_over openings x e = ap (λ os. around (expression n) (declarator n) os (Some x)) e
+  around_over openings x e = ap (λ os. around (suc n) (expression n) (declarator n) os (Some x)) e
 
   -- ---- Behind the name
 
   module _ {read r : Option (Read Named)} (openings : List Opening) (opening : Opening)
-      (named : read ≡ around (expression n) (declarator n) openings (r >>= closed (expression n) (declarator n) opening)) where
+      (named : read ≡ around (suc n) (expression n) (declarator n) openings (r >>= closed (suc n) (expression n) (declarator n) opening)) where
     pub name_fails : r ≡ None → read ≡ None
-    name_fails none = named ∙ ap (λ r. around (expression n) (declarator n) openings (r >>= closed (expression n) (declarator n) opening)) none ∙ around_none openings
+    name_fails none = named ∙ ap (λ r. around (suc n) (expression n) (declarator n) openings (r >>= closed (suc n) (expression n) (declarator n) opening)) none ∙ around_none openings
 
-    pub inner_goes : (x y : Read Named) → r ≡ Some x → closed (expression n) (declarator n) opening x ≡ Some y → read ≡ around (expression n) (declarator n) openings (Some y)
+    pub inner_goes : (x y : Read Named) → r ≡ Some x → closed (suc n) (expression n) (declarator n) opening x ≡ Some y → read ≡ around (suc n) (expression n) (declarator n) openings (Some y)
     inner_goes x y some goes =
-        named ∙ ap (λ r. around (expression n) (declarator n) openings (r >>= closed (expression n) (declarator n) opening)) some
-        ∙ ap (around (expression n) (declarator n) openings) goes
+        named ∙ ap (λ r. around (suc n) (expression n) (declarator n) openings (r >>= closed (suc n) (expression n) (declarator n) opening)) some
+        ∙ ap (around (suc n) (expression n) (declarator n) openings) goes
 
-    pub inner_fails : (x : Read Named) → r ≡ Some x → closed (expression n) (declarator n) opening x ≡ None → read ≡ None
+    pub inner_fails : (x : Read Named) → r ≡ Some x → closed (suc n) (expression n) (declarator n) opening x ≡ None → read ≡ None
     inner_fails x some none =
-        named ∙ ap (λ r. around (expression n) (declarator n) openings (r >>= closed (expression n) (declarator n) opening)) some
-        ∙ ap (around (expression n) (declarator n) openings) none ∙ around_none openings
+        named ∙ ap (λ r. around (suc n) (expression n) (declarator n) openings (r >>= closed (suc n) (expression n) (declarator n) opening)) some
+        ∙ ap (around (suc n) (expression n) (declarator n) openings) none ∙ around_none openings

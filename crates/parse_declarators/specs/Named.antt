@@ -1,15 +1,15 @@
 -- What a function that reads a declarator ensures.
-use Rattle.std.specs.Prelude.{◌≡◌, ◌≢◌, ℕ, ◌+◌, ◌^◌, ◌<◌, List, length, Option, Some, None, Result, Ok, Err}
+use Rattle.std.specs.Prelude.{ℕ, ◌+◌, ◌^◌, ◌<◌, List, length, Option, Result}
 use Rattle.c_grammar.specs.Terminals.{Lexeme}
 use Rattle.c_grammar.specs.Expressions as g
 use Rattle.c_grammar.specs.Reading.{Read, Specs, found}
 use Rattle.c_grammar.specs.ReadingDeclarators as spec
 use Rattle.c_grammar.specs.ReadingDeclarators.{as_named}
 use Rattle.parse_tokens.specs.declared.faults.ParseFault.{ParseFault}
-use Rattle.parse_tokens.specs.declared.faults.ParseFault.TheVariants as fault
 use Rattle.parse_tokens.specs.declared.faults.Tall.{Tall}
+use Rattle.parse_tokens.specs.Gives.{GivesAs}
 use Rattle.parse_parts.specs.declared.specifiers.SpecList.{SpecList}
-use Rattle.parse_parts.specs.Counts.{tally_of}
+use Rattle.parse_parts.specs.Counts.{specs_of}
 use Rattle.parse_declarators.specs.declared.named.Nearest.{Nearest}
 use Rattle.parse_declarators.specs.declared.named.Nearest.TheVariants as nearest
 use Rattle.parse_declarators.specs.declared.named.Named.{Named}
@@ -27,12 +27,11 @@ abbrev pub as_read : Tall Named → List Lexeme → Read spec.Named
 as_read x t = found (named_of x.tree) x.height t
 
 abbrev pub GivesNamed : Option (Read spec.Named) → Result (Tall Named) ParseFault → List Lexeme → Type 0
-GivesNamed read (Ok x) new = read ≡ Some (as_read x new)
-GivesNamed read (Err e) new = e ≢ fault.NoMemory → read ≡ None
+GivesNamed = GivesAs named_of
 
 -- the specifiers that have been found, with the tokens behind them
 abbrev pub as_specs : Tall SpecList → List Lexeme → Read Specs
-as_specs xs t = found (record { specs = xs.tree.specs; tally = tally_of xs.tree.tally }) xs.height t
+as_specs xs t = found (specs_of xs.tree) xs.height t
 
 -- a height that stays within 64 bits, whatever the tokens that are left add to it
 abbrev pub HasRoom : ℕ → List Lexeme → Type 0

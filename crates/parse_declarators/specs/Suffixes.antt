@@ -4,10 +4,11 @@ use Rattle.fc_base.specs.declared.refusals.Place.{Place}
 use Rattle.c_tokens.specs.declared.puncts.Punct.TheVariants as p
 use Rattle.c_tree.specs.declared.nodes.Expr.{Expr}
 use Rattle.c_tree.specs.declared.nodes.Declarator.TheVariants as d
+use Rattle.c_tree.specs.declared.nodes.Params.{Params}
 use Rattle.c_grammar.specs.declared.terminals.Terminal.TheVariants as k
 use Rattle.c_grammar.specs.Terminals.{Lexeme, at, text_of, place_of}
 use Rattle.c_grammar.specs.Expressions.{bare, parameters, other, behind}
-use Rattle.c_grammar.specs.Reading.{Read, ◌>>=◌, found, after_left_paren, after_right_paren, after_left_bracket, pointer_words, bound}
+use Rattle.c_grammar.specs.Reading.{Read, ◌>>=◌, found, bounded, after_left_paren, after_right_paren, after_left_bracket, pointer_words, bound}
 use Rattle.c_grammar.specs.ReadingDeclarators.{Named, as_named, params_in, suffixes}
 use Rattle.parse_declarators.specs.declared.declarators.Pointer.{Pointer}
 use Rattle.parse_declarators.specs.declared.declarators.Opening.{Opening}
@@ -24,9 +25,9 @@ abbrev pub opening_at : List Lexeme → Opening × List Lexeme
 opening_at s = (record { pointer = (pointer_at s).0; start = place_of (pointer_at s).1 }, (pointer_at s).1)
 
 -- whether a declarator in parentheses comes next, and the tokens behind its parenthesis
-abbrev pub group_begins : List Lexeme → Bool × List Lexeme
-group_begins (at (k.Punct p.LeftParen) o ∷ t) = (true, t)
-group_begins t = (false, t)
+abbrev pub left_paren_at : List Lexeme → Bool × List Lexeme
+left_paren_at (at (k.Punct p.LeftParen) o ∷ t) = (true, t)
+left_paren_at t = (false, t)
 
 -- how a declarator goes on
 abbrev pub suffix_at : List Lexeme → Option Suffix
@@ -39,18 +40,26 @@ abbrev pub name_at : List Lexeme → Option (Read Named)
 name_at (at k.Name o ∷ t) = Some (found (as_named (d.Name (text_of o) o.place) (record { name = text_of o; nearest = bare })) 1 t)
 name_at _ = None
 
-module _ (sub : ℕ → List Lexeme → Option (Read Expr)) (deep : List Lexeme → Option (Read Named)) where
+-- a declarator with a bound behind it, or with parameters
+abbrev pub with_bound : Place → Read Named → Read (Option Expr) → Read Named
+with_bound start x y = found (as_named (d.Array x.tree.tree y.tree start) (behind x.tree.declared other)) (suc (max x.height y.height)) y.rest
+
+abbrev pub with_params : Place → Read Named → Read Params → Read Named
+with_params start x y = found (as_named (d.Function x.tree.tree y.tree start) (behind x.tree.declared parameters)) (suc (max x.height y.height)) y.rest
+
+-- with the most that a tree may be high, and readers of expressions and of declarators in parameters
+module _ (limit : ℕ) (sub : ℕ → List Lexeme → Option (Read Expr)) (deep : List Lexeme → Option (Read Named)) where
   abbrev pub array_at : Place → Read Named → List Lexeme → Option (Read Named)
   array_at start x s = do
     t ← after_left_bracket s
     y ← bound sub t
-    Some (found (as_named (d.Array x.tree.tree y.tree start) (behind x.tree.declared other)) (suc (max x.height y.height)) y.rest)
+    bounded limit (with_bound start x y)
 
   abbrev pub function_at : Place → Read Named → List Lexeme → Option (Read Named)
   function_at start x s = do
     t ← after_left_paren s
-    y ← params_in sub deep t
-    Some (found (as_named (d.Function x.tree.tree y.tree start) (behind x.tree.declared parameters)) (suc (max x.height y.height)) y.rest)
+    y ← params_in limit sub deep t
+    bounded limit (with_params start x y)
 
 -- a direct declarator, which may be what a pointer stands before
 abbrev pub pointed : Option Pointer → Read Named → Read Named
@@ -58,10 +67,10 @@ pointed None x = x
 pointed (Some pointer) x =
     found (as_named (d.Pointer pointer.words x.tree.tree pointer.place) (behind x.tree.declared other)) (suc x.height) x.rest
 
-module _ (sub : ℕ → List Lexeme → Option (Read Expr)) (deep : List Lexeme → Option (Read Named)) where
+module _ (limit : ℕ) (sub : ℕ → List Lexeme → Option (Read Expr)) (deep : List Lexeme → Option (Read Named)) where
   -- the declarator, where its name or what stands in its parentheses has been read
   abbrev pub closed : Opening → Read Named → Option (Read Named)
-  closed opening x = suffixes sub deep (length x.rest) opening.start x >>= λ y. Some (pointed opening.pointer y)
+  closed opening x = suffixes limit sub deep (length x.rest) opening.start x >>= λ y. Some (pointed opening.pointer y)
 
   -- one that stands in the parentheses of the next, the inmost of them last
   abbrev pub in_parens : Opening → Option (Read Named) → Option (Read Named)

@@ -2,12 +2,12 @@
 
 ghost use Rattle.std.specs.Prelude.{◌≡◌, ◌+◌, ◌-◌, ◌≤◌, ◌<◌, ◌^◌, ◌∷◌, [], suc, max, List, Some, length, IfOk, IsTrue};
 ghost use Rattle.c_grammar.specs.Terminals.{Lexeme};
-ghost use Rattle.c_grammar.specs.Reading.{expression};
+ghost use Rattle.c_grammar.specs.Reading.{bounded, expression};
 ghost use Rattle.c_grammar.specs.ReadingDeclarators as spec;
 ghost use Rattle.parse_tokens.specs.Gives.{Low};
 ghost use Rattle.parse_declarators.specs.Named.{GivesNamed, HasRoom, as_read};
 ghost use Rattle.parse_declarators.specs.Nests.{Nests};
-ghost use Rattle.parse_declarators.specs.Suffixes.{pointer_at, opening_at, group_begins, suffix_at, name_at, array_at, function_at, pointed, closed, around};
+ghost use Rattle.parse_declarators.specs.Suffixes.{pointer_at, opening_at, left_paren_at, suffix_at, name_at, array_at, function_at, pointed, closed, around};
 
 use crate::named::{Named, Nearest};
 use crate::params::Declarators;
@@ -15,7 +15,7 @@ use c_grammar::Terminal;
 use c_tokens::Punct;
 use c_tree::{Declarator, PointerWord};
 use fc_base::Place;
-use parse_expr::{HIGHEST_DECLARATOR, bound};
+use parse_expr::bound;
 use parse_parts::pointer_words;
 use parse_tokens::{ParseFault, Tall, Tokens, copy_text, text_of};
 use sqlite_items::{Boxed, Items};
@@ -75,8 +75,8 @@ fn take_opening(alloc: Global, tokens: &mut Tokens<'_>) -> Result<Opening, Alloc
 }
 
 /// Takes the `(` of a declarator in parentheses, if it comes next. Whether it does.
-fn group_begins(tokens: &mut Tokens<'_>) -> bool
-    ensures reads { group_begins tokens.old ≡ (result, tokens.new) }
+fn take_left_paren(tokens: &mut Tokens<'_>) -> bool
+    ensures reads { left_paren_at tokens.old ≡ (result, tokens.new) }
     ensures on { length tokens.new ≤ length tokens.old }
     ensures taken { IsTrue result → length tokens.new < length tokens.old }
 {
@@ -150,6 +150,19 @@ fn pointed<'a>(
     })
 }
 
+/// The declarator, if its tree is not too high.
+fn within<'a>(found: Tall<Named<'a>>, depth: usize) -> Result<Tall<Named<'a>>, ParseFault>
+    requires { depth < 1000 }
+    ensures reads { (t : List Lexeme) → GivesNamed (bounded (suc depth) (as_read found.entry t)) result t }
+    ensures same { IfOk result (λ x. x.height ≡ found.entry.height) }
+{
+    if found.height <= depth + 1 {
+        Ok(found)
+    } else {
+        Err(ParseFault::NoDerivation)
+    }
+}
+
 impl<'a, F: Fn(Global, &mut Tokens<'a>, usize) -> Result<Tall<Named<'a>>, ParseFault>> Declarators<
     F,
 > {
@@ -162,14 +175,14 @@ impl<'a, F: Fn(Global, &mut Tokens<'a>, usize) -> Result<Tall<Named<'a>>, ParseF
     ) -> Result<Tall<Named<'a>>, ParseFault>
         requires nests { Nests self.now.depth (F.pre self.now.declarator) (F.post self.now.declarator) }
         requires few { HasRoom of.height tokens.old }
-        ensures reads { GivesNamed (array_at (expression self.now.depth) (spec.declarator self.now.depth) start (as_read of.entry tokens.old) tokens.old) result tokens.new }
+        ensures reads { GivesNamed (array_at (suc self.now.depth) (expression self.now.depth) (spec.declarator self.now.depth) start (as_read of.entry tokens.old) tokens.old) result tokens.new }
         ensures low { Low (max of.entry.height (self.now.depth + 1)) result tokens.old tokens.new }
         ensures on { IfOk result (λ _. length tokens.new < length tokens.old) }
     {
         tokens.expect_left_bracket()?;
         let size = bound(self.alloc, tokens, self.depth)?;
         let Tall { tree: of, height } = of;
-        Ok(Tall {
+        let found = Tall {
             tree: Named {
                 tree: Declarator::Array {
                     of: Boxed::new(self.alloc, of.tree)?,
@@ -180,7 +193,8 @@ impl<'a, F: Fn(Global, &mut Tokens<'a>, usize) -> Result<Tall<Named<'a>>, ParseF
                 nearest: of.nearest.behind(Nearest::Other),
             },
             height: height.max(size.height) + 1,
-        })
+        };
+        within(found, self.depth)
     }
 
     /// `(int x, char *y)`
@@ -192,14 +206,14 @@ impl<'a, F: Fn(Global, &mut Tokens<'a>, usize) -> Result<Tall<Named<'a>>, ParseF
     ) -> Result<Tall<Named<'a>>, ParseFault>
         requires nests { Nests self.now.depth (F.pre self.now.declarator) (F.post self.now.declarator) }
         requires few { HasRoom of.height tokens.old }
-        ensures reads { GivesNamed (function_at (expression self.now.depth) (spec.declarator self.now.depth) start (as_read of.entry tokens.old) tokens.old) result tokens.new }
+        ensures reads { GivesNamed (function_at (suc self.now.depth) (expression self.now.depth) (spec.declarator self.now.depth) start (as_read of.entry tokens.old) tokens.old) result tokens.new }
         ensures low { Low (max of.entry.height (self.now.depth + 1)) result tokens.old tokens.new }
         ensures on { IfOk result (λ _. length tokens.new < length tokens.old) }
     {
         tokens.expect_left_paren()?;
         let params = self.params_in(tokens)?;
         let Tall { tree: of, height } = of;
-        Ok(Tall {
+        let found = Tall {
             tree: Named {
                 tree: Declarator::Function {
                     of: Boxed::new(self.alloc, of.tree)?,
@@ -210,7 +224,8 @@ impl<'a, F: Fn(Global, &mut Tokens<'a>, usize) -> Result<Tall<Named<'a>>, ParseF
                 nearest: of.nearest.behind(Nearest::Parameters),
             },
             height: height.max(params.height) + 1,
-        })
+        };
+        within(found, self.depth)
     }
 
     /// How a declarator goes on, as `[2][3]`, with the place where it begins.
@@ -222,15 +237,12 @@ impl<'a, F: Fn(Global, &mut Tokens<'a>, usize) -> Result<Tall<Named<'a>>, ParseF
     ) -> Result<Tall<Named<'a>>, ParseFault>
         requires nests { Nests self.now.depth (F.pre self.now.declarator) (F.post self.now.declarator) }
         requires few { HasRoom first.height tokens.old }
-        ensures reads { GivesNamed (spec.suffixes (expression self.now.depth) (spec.declarator self.now.depth) (length tokens.old) start (as_read first.entry tokens.old)) result tokens.new }
+        ensures reads { GivesNamed (spec.suffixes (suc self.now.depth) (expression self.now.depth) (spec.declarator self.now.depth) (length tokens.old) start (as_read first.entry tokens.old)) result tokens.new }
         ensures low { Low (max first.entry.height (self.now.depth + 1)) result tokens.old tokens.new }
         ensures on { IfOk result (λ _. length tokens.new ≤ length tokens.old) }
     {
         let mut left = first;
         while let Some(suffix) = next_suffix(tokens) {
-            if left.height >= HIGHEST_DECLARATOR {
-                return Err(ParseFault::NoMemory);
-            }
             left = match suffix {
                 Suffix::Array => self.array(tokens, start, left)?,
                 Suffix::Function => self.function(tokens, start, left)?,
@@ -248,7 +260,7 @@ impl<'a, F: Fn(Global, &mut Tokens<'a>, usize) -> Result<Tall<Named<'a>>, ParseF
     ) -> Result<Tall<Named<'a>>, ParseFault>
         requires nests { Nests self.now.depth (F.pre self.now.declarator) (F.post self.now.declarator) }
         requires few { HasRoom first.height tokens.old }
-        ensures reads { GivesNamed (closed (expression self.now.depth) (spec.declarator self.now.depth) opening (as_read first.entry tokens.old)) result tokens.new }
+        ensures reads { GivesNamed (closed (suc self.now.depth) (expression self.now.depth) (spec.declarator self.now.depth) opening (as_read first.entry tokens.old)) result tokens.new }
         ensures low { Low (max first.entry.height (self.now.depth + 1) + 1) result tokens.old tokens.new }
         ensures on { IfOk result (λ _. length tokens.new ≤ length tokens.old) }
     {
@@ -265,7 +277,7 @@ impl<'a, F: Fn(Global, &mut Tokens<'a>, usize) -> Result<Tall<Named<'a>>, ParseF
     ) -> Result<Tall<Named<'a>>, ParseFault>
         requires nests { Nests self.now.depth (F.pre self.now.declarator) (F.post self.now.declarator) }
         requires few { HasRoom inner.height tokens.old }
-        ensures reads { GivesNamed (around (expression self.now.depth) (spec.declarator self.now.depth) outer (Some (as_read inner.entry tokens.old))) result tokens.new }
+        ensures reads { GivesNamed (around (suc self.now.depth) (expression self.now.depth) (spec.declarator self.now.depth) outer (Some (as_read inner.entry tokens.old))) result tokens.new }
         ensures low { Low (max inner.entry.height (self.now.depth + 1)) result tokens.old tokens.new }
         ensures on { IfOk result (λ _. length tokens.new ≤ length tokens.old) }
     {
@@ -281,14 +293,14 @@ impl<'a, F: Fn(Global, &mut Tokens<'a>, usize) -> Result<Tall<Named<'a>>, ParseF
     /// `*(*x)[2]`: a loop goes in to the name, and another one out again.
     fn whole(&self, tokens: &mut Tokens<'a>) -> Result<Tall<Named<'a>>, ParseFault>
         requires { Nests self.now.depth (F.pre self.now.declarator) (F.post self.now.declarator) }
-        ensures reads { GivesNamed (spec.whole (expression self.now.depth) (spec.declarator self.now.depth) (suc (length tokens.old)) tokens.old) result tokens.new }
+        ensures reads { GivesNamed (spec.whole (suc self.now.depth) (expression self.now.depth) (spec.declarator self.now.depth) (suc (length tokens.old)) tokens.old) result tokens.new }
         ensures low { Low (self.now.depth + 1) result tokens.old tokens.new }
         ensures on { IfOk result (λ _. length tokens.new < length tokens.old) }
         ensures few { length tokens.old < 2 ^ 63 }
     {
         let mut outer = Items::new(self.alloc);
         let mut inmost = take_opening(self.alloc, tokens)?;
-        while group_begins(tokens) {
+        while take_left_paren(tokens) {
             outer.push(inmost)?;
             inmost = take_opening(self.alloc, tokens)?;
         }

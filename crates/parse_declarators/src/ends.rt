@@ -9,8 +9,8 @@ use c_tokens::Punct;
 use parse_tokens::{ParseFault, Tokens};
 
 /// Takes the `,` or the `)` behind a parameter. Whether it was the last one.
-pub fn params_end(tokens: &mut Tokens<'_>) -> Result<bool, ParseFault>
-    ensures reads { GivesPart (spec.params_end tokens.old) result tokens.new }
+pub fn take_params_end(tokens: &mut Tokens<'_>) -> Result<bool, ParseFault>
+    ensures reads { GivesPart (spec.params_end_at tokens.old) result tokens.new }
     ensures on { IfOk result (λ _. length tokens.new < length tokens.old) }
 {
     match tokens.next() {
@@ -21,8 +21,8 @@ pub fn params_end(tokens: &mut Tokens<'_>) -> Result<bool, ParseFault>
 }
 
 /// Takes the `,` or the `;` behind a declarator of members. Whether it was the last one.
-pub fn declarators_end(tokens: &mut Tokens<'_>) -> Result<bool, ParseFault>
-    ensures reads { GivesPart (spec.declarators_end tokens.old) result tokens.new }
+pub fn take_declarators_end(tokens: &mut Tokens<'_>) -> Result<bool, ParseFault>
+    ensures reads { GivesPart (spec.declarators_end_at tokens.old) result tokens.new }
     ensures on { IfOk result (λ _. length tokens.new < length tokens.old) }
 {
     match tokens.next() {
@@ -33,8 +33,8 @@ pub fn declarators_end(tokens: &mut Tokens<'_>) -> Result<bool, ParseFault>
 }
 
 /// Takes the `}` of a body, if it comes next. Whether it does.
-pub fn body_ends(tokens: &mut Tokens<'_>) -> bool
-    ensures reads { spec.body_ends tokens.old ≡ (result, tokens.new) }
+pub fn take_body_end(tokens: &mut Tokens<'_>) -> bool
+    ensures reads { spec.body_end_at tokens.old ≡ (result, tokens.new) }
     ensures on { length tokens.new ≤ length tokens.old }
 {
     match tokens.peek() {
@@ -47,13 +47,13 @@ pub fn body_ends(tokens: &mut Tokens<'_>) -> bool
 }
 
 /// Takes the `,`, the `}` or both behind an enumerator. Whether it was the last one.
-pub fn enumerators_end(tokens: &mut Tokens<'_>) -> Result<bool, ParseFault>
-    ensures reads { GivesPart (spec.enumerators_end tokens.old) result tokens.new }
+pub fn take_enumerators_end(tokens: &mut Tokens<'_>) -> Result<bool, ParseFault>
+    ensures reads { GivesPart (spec.enumerators_end_at tokens.old) result tokens.new }
     ensures on { IfOk result (λ _. length tokens.new < length tokens.old) }
 {
     match tokens.next() {
         Some((Terminal::Punct(Punct::RightBrace), _)) => Ok(true),
-        Some((Terminal::Punct(Punct::Comma), _)) => Ok(body_ends(tokens)),
+        Some((Terminal::Punct(Punct::Comma), _)) => Ok(take_body_end(tokens)),
         _ => Err(ParseFault::NoDerivation),
     }
 }

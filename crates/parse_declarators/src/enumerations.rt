@@ -5,7 +5,7 @@ ghost use Rattle.c_grammar.specs.Reading.{expression};
 ghost use Rattle.c_grammar.specs.ReadingDeclarators as spec;
 ghost use Rattle.parse_tokens.specs.Gives.{Gives};
 
-use crate::ends::enumerators_end;
+use crate::ends::take_enumerators_end;
 use crate::identifiers::copy_identifier;
 use c_grammar::Terminal;
 use c_tokens::Punct;
@@ -68,7 +68,7 @@ pub fn enumerators(
         let next = enumerator(alloc, tokens, depth)?;
         trees.push(next.tree)?;
         height = height.max(next.height);
-        if enumerators_end(tokens)? {
+        if take_enumerators_end(tokens)? {
             return Ok(Tall {
                 tree: trees,
                 height,

@@ -12,6 +12,6 @@ mod params;
 mod specifiers;
 
 pub use declarators::declarator;
-pub use ends::{body_ends, declarators_end, enumerators_end};
+pub use ends::{take_body_end, take_declarators_end, take_enumerators_end};
 pub use named::{Named, Nearest};
 pub use specifiers::outer_specs;

@@ -9,7 +9,7 @@ ghost use Rattle.parse_parts.specs.Counts.{GivesCounted, GivesSpecs, total};
 ghost use Rattle.parse_declarators.specs.Nests.{NestsSpecs};
 
 use crate::declarators::declarator;
-use crate::ends::{body_ends, declarators_end};
+use crate::ends::{take_body_end, take_declarators_end};
 use c_tree::{Declarator, MemberDecl};
 use parse_parts::{Context, Counted, SpecList};
 use parse_tokens::{ParseFault, Tall, Tokens};
@@ -35,7 +35,7 @@ fn declarators(
         let named = next.tree;
         trees.push(named.tree)?;
         height = height.max(next.height);
-        if declarators_end(tokens)? {
+        if take_declarators_end(tokens)? {
             return Ok(Tall {
                 tree: trees,
                 height,
@@ -73,7 +73,7 @@ impl<F: Fn(Global, &mut Tokens<'_>, usize) -> Result<Tall<Counted>, ParseFault>>
         requires few { turns < 2 ^ 63 }
         ensures reads { GivesSpecs (specs_any (spec.outer_spec self.now.depth) turns tokens.old) result tokens.new }
         ensures low { Low self.now.depth result tokens.old tokens.new }
-        ensures small { IfOk result (λ x. total x.tree.tally < 2 ^ 64) }
+        ensures small { IfOk result (λ x. total x.tree.tally < 2 ^ 63) }
         ensures on { IfOk result (λ _. length tokens.new < length tokens.old) }
     {
         let mut list = SpecList::new(self.alloc);
@@ -95,6 +95,7 @@ impl<F: Fn(Global, &mut Tokens<'_>, usize) -> Result<Tall<Counted>, ParseFault>>
         requires { NestsSpecs self.now.depth (F.pre self.now.spec) (F.post self.now.spec) }
         ensures reads { GivesSpecs (specs_in (spec.outer_spec self.now.depth) outer tokens.old) result tokens.new }
         ensures low { Low self.now.depth result tokens.old tokens.new }
+        ensures small { IfOk result (λ x. total x.tree.tally < 2 ^ 63) }
         ensures on { IfOk result (λ _. length tokens.new < length tokens.old) }
         ensures few { length tokens.old < 2 ^ 63 }
     {
@@ -142,7 +143,7 @@ impl<F: Fn(Global, &mut Tokens<'_>, usize) -> Result<Tall<Counted>, ParseFault>>
             let next = self.member_decl(tokens)?;
             trees.push(next.tree)?;
             height = height.max(next.height);
-            if body_ends(tokens) {
+            if take_body_end(tokens) {
                 return Ok(Tall {
                     tree: trees,
                     height,

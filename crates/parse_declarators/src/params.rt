@@ -1,13 +1,13 @@
 //! Parameters (C11 6.7.6).
 
-ghost use Rattle.std.specs.Prelude.{◌≡◌, ◌+◌, ◌≤◌, ◌<◌, length, IfOk};
+ghost use Rattle.std.specs.Prelude.{◌≡◌, ◌+◌, ◌≤◌, ◌<◌, suc, length, IfOk};
 ghost use Rattle.c_grammar.specs.Reading.{expression};
 ghost use Rattle.c_grammar.specs.ReadingDeclarators as spec;
 ghost use Rattle.parse_tokens.specs.Gives.{Gives, Low};
 ghost use Rattle.parse_declarators.specs.Named.{as_specs};
 ghost use Rattle.parse_declarators.specs.Nests.{Nests};
 
-use crate::ends::params_end;
+use crate::ends::take_params_end;
 use crate::lookahead::names;
 use crate::named::Named;
 use c_grammar::{Keyword, Terminal};
@@ -41,7 +41,7 @@ impl<'a, F: Fn(Global, &mut Tokens<'a>, usize) -> Result<Tall<Named<'a>>, ParseF
     ) -> Result<Tall<Param>, ParseFault>
         requires nests { Nests self.now.depth (F.pre self.now.declarator) (F.post self.now.declarator) }
         requires plain { specs.height ≤ 1 }
-        ensures reads { Gives (spec.param_named (expression self.now.depth) (spec.declarator self.now.depth) (as_specs specs tokens.old)) result tokens.new }
+        ensures reads { Gives (spec.param_named (suc self.now.depth) (expression self.now.depth) (spec.declarator self.now.depth) (as_specs specs tokens.old)) result tokens.new }
         ensures low { Low (self.now.depth + 1) result tokens.old tokens.new }
         ensures on { IfOk result (λ _. length tokens.new ≤ length tokens.old) }
     {
@@ -65,7 +65,7 @@ impl<'a, F: Fn(Global, &mut Tokens<'a>, usize) -> Result<Tall<Named<'a>>, ParseF
     ) -> Result<Tall<Param>, ParseFault>
         requires nests { Nests self.now.depth (F.pre self.now.declarator) (F.post self.now.declarator) }
         requires plain { specs.height ≤ 1 }
-        ensures reads { Gives (spec.param_abstract (expression self.now.depth) (spec.declarator self.now.depth) place (as_specs specs tokens.old)) result tokens.new }
+        ensures reads { Gives (spec.param_abstract (suc self.now.depth) (expression self.now.depth) (spec.declarator self.now.depth) place (as_specs specs tokens.old)) result tokens.new }
         ensures low { Low (self.now.depth + 1) result tokens.old tokens.new }
         ensures on { IfOk result (λ _. length tokens.new ≤ length tokens.old) }
     {
@@ -83,7 +83,7 @@ impl<'a, F: Fn(Global, &mut Tokens<'a>, usize) -> Result<Tall<Named<'a>>, ParseF
     #[tactic(auto, unfolding(c_grammar::specs::ReadingDeclarators::param))]
     fn param(&self, tokens: &mut Tokens<'a>) -> Result<Tall<Param>, ParseFault>
         requires { Nests self.now.depth (F.pre self.now.declarator) (F.post self.now.declarator) }
-        ensures reads { Gives (spec.param (expression self.now.depth) (spec.declarator self.now.depth) tokens.old) result tokens.new }
+        ensures reads { Gives (spec.param (suc self.now.depth) (expression self.now.depth) (spec.declarator self.now.depth) tokens.old) result tokens.new }
         ensures low { Low (self.now.depth + 1) result tokens.old tokens.new }
         ensures on { IfOk result (λ _. length tokens.new < length tokens.old) }
     {
@@ -99,7 +99,7 @@ impl<'a, F: Fn(Global, &mut Tokens<'a>, usize) -> Result<Tall<Named<'a>>, ParseF
     /// `int x, char *y)`
     fn params_some(&self, tokens: &mut Tokens<'a>) -> Result<Tall<Items<Param>>, ParseFault>
         requires { Nests self.now.depth (F.pre self.now.declarator) (F.post self.now.declarator) }
-        ensures reads { Gives (spec.params_some (expression self.now.depth) (spec.declarator self.now.depth) (length tokens.old) tokens.old) result tokens.new }
+        ensures reads { Gives (spec.params_some (suc self.now.depth) (expression self.now.depth) (spec.declarator self.now.depth) (length tokens.old) tokens.old) result tokens.new }
         ensures low { Low (self.now.depth + 1) result tokens.old tokens.new }
         ensures on { IfOk result (λ _. length tokens.new < length tokens.old) }
     {
@@ -110,7 +110,7 @@ impl<'a, F: Fn(Global, &mut Tokens<'a>, usize) -> Result<Tall<Named<'a>>, ParseF
             let param = self.param(tokens)?;
             trees.push(param.tree)?;
             height = height.max(param.height);
-            if params_end(tokens)? {
+            if take_params_end(tokens)? {
                 return Ok(Tall {
                     tree: trees,
                     height,
@@ -123,7 +123,7 @@ impl<'a, F: Fn(Global, &mut Tokens<'a>, usize) -> Result<Tall<Named<'a>>, ParseF
     #[tactic(auto, unfolding(c_grammar::specs::ReadingDeclarators::params_list))]
     fn params_list(&self, tokens: &mut Tokens<'a>) -> Result<Tall<Params>, ParseFault>
         requires { Nests self.now.depth (F.pre self.now.declarator) (F.post self.now.declarator) }
-        ensures reads { Gives (spec.params_list (expression self.now.depth) (spec.declarator self.now.depth) tokens.old) result tokens.new }
+        ensures reads { Gives (spec.params_list (suc self.now.depth) (expression self.now.depth) (spec.declarator self.now.depth) tokens.old) result tokens.new }
         ensures low { Low (self.now.depth + 1) result tokens.old tokens.new }
         ensures on { IfOk result (λ _. length tokens.new < length tokens.old) }
     {
@@ -137,7 +137,7 @@ impl<'a, F: Fn(Global, &mut Tokens<'a>, usize) -> Result<Tall<Named<'a>>, ParseF
     /// What stands behind the `(` of a function declarator, up to and with its `)`.
     pub fn params_in(&self, tokens: &mut Tokens<'a>) -> Result<Tall<Params>, ParseFault>
         requires { Nests self.now.depth (F.pre self.now.declarator) (F.post self.now.declarator) }
-        ensures reads { Gives (spec.params_in (expression self.now.depth) (spec.declarator self.now.depth) tokens.old) result tokens.new }
+        ensures reads { Gives (spec.params_in (suc self.now.depth) (expression self.now.depth) (spec.declarator self.now.depth) tokens.old) result tokens.new }
         ensures low { Low (self.now.depth + 1) result tokens.old tokens.new }
         ensures on { IfOk result (λ _. length tokens.new < length tokens.old) }
     {

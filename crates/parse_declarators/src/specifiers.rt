@@ -283,6 +283,7 @@ pub fn outer_specs(
     requires { depth < 1000 }
     ensures reads { GivesSpecs (specs_in (spec.outer_spec depth) outer tokens.old) result tokens.new }
     ensures low { Low depth result tokens.old tokens.new }
+    ensures small { IfOk result (λ x. total x.tree.tally < 2 ^ 63) }
     ensures on { IfOk result (λ _. length tokens.new < length tokens.old) }
     ensures few { IfOk result (λ x. x.height ≤ depth + 2 ^ 63) }
 {

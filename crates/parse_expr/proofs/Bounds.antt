@@ -1,5 +1,7 @@
 -- The steps of the loop over the bounds of an abstract declarator.
-use Rattle.std.proofs.Common.{◌≡◌, ℕ, zero, suc, max, List, [], ◌∷◌, length, Option, Some, None, refl, ap, ◌∙◌}
+use Rattle.std.proofs.Common.{◌≡◌, ℕ, zero, suc, max, ◌<◌, ◌≤◌, List, [], ◌∷◌, length, Option, Some, None, Bool, true, false, refl, ap, ◌∙◌}
+use Rattle.std.specs.Prelude.{if◌then◌else◌, nat_le}
+use Rattle.std.proofs.lemmas.Bool.{le-leb, lt-leb}
 use Rattle.fc_base.specs.declared.refusals.Place.{Place}
 use Rattle.c_tokens.specs.declared.puncts.Punct.TheVariants as p
 use Rattle.c_tree.specs.declared.nodes.Expr.{Expr}
@@ -19,39 +21,51 @@ nothing_behind : {A B : Type 0} (o : Option A) (f : A → Option B) → ((x : A)
 nothing_behind None f h = refl
 nothing_behind (Some x) f h = h x
 
-module _ (sub : ℕ → List Lexeme → Option (Read Expr)) (place start : Place) where
+either_way : {A : Type 0} (b : Bool) (x : A) → (if b then x else x) ≡ x
+either_way true x = refl
+either_way false x = refl
+
+module _ (sub : ℕ → List Lexeme → Option (Read Expr)) (limit : ℕ) (place start : Place) where
   -- with one more bound
   abbrev with_bound : Read Declarator → Read (Option Expr) → Read Declarator
   with_bound x y = found (d.Array x.tree y.tree start) (suc (max x.height y.height)) y.rest
 
+  abbrev if_low : (Read Declarator → Option (Read Declarator)) → Read Declarator → Read (Option Expr) → Option (Read Declarator)
+  if_low later x y = if nat_le (suc (max x.height y.height)) limit then later (with_bound x y) else None
+
   behind_goes : (later : Read Declarator → Option (Read Declarator)) (x : Read Declarator) (s t : List Lexeme) → after_left_bracket s ≡ Some t →
-      arrays_behind sub place later start x s ≡ (bound sub t >>= λ y. later (with_bound x y))
+      arrays_behind sub limit place later start x s ≡ (bound sub t >>= λ y. if_low later x y)
   behind_goes later x [] t e = absurd (nothing_found e)
-  behind_goes later x (at (k.Punct p.LeftBracket) o ∷ s) t e = ap (λ r. bound sub r >>= λ y. later (with_bound x y)) (some_same e)
+  behind_goes later x (at (k.Punct p.LeftBracket) o ∷ s) t e = ap (λ r. bound sub r >>= λ y. if_low later x y) (some_same e)
   behind_goes later x _ t e = absurd (nothing_found e)
 
   behind_ends : (later : Read Declarator → Option (Read Declarator)) (x : Read Declarator) (s : List Lexeme) → after_left_bracket s ≡ None →
-      arrays_behind sub place later start x s ≡ Some x
+      arrays_behind sub limit place later start x s ≡ Some x
   behind_ends later x [] e = refl
   behind_ends later x (at (k.Punct p.LeftBracket) o ∷ s) e = absurd (found_nothing e)
   behind_ends later x _ e = refl
 
   module _ (x : Declarator) (h : ℕ) (s : List Lexeme) where
-    pub arrays_end : (m : ℕ) → after_left_bracket s ≡ None → arrays sub place m start (found x h s) ≡ Some (found x h s)
+    pub arrays_end : (m : ℕ) → after_left_bracket s ≡ None → arrays sub limit place m start (found x h s) ≡ Some (found x h s)
     unfolding arrays
     arrays_end zero e = behind_ends (λ y. None) (found x h s) s e
-    arrays_end (suc m) e = behind_ends (arrays sub place m start) (found x h s) s e
+    arrays_end (suc m) e = behind_ends (arrays sub limit place m start) (found x h s) s e
 
-    pub arrays_full : (m : ℕ) (t : List Lexeme) → m ≡ 0 → after_left_bracket s ≡ Some t → arrays sub place m start (found x h s) ≡ None
+    pub arrays_full : (m : ℕ) (t : List Lexeme) → m ≡ 0 → after_left_bracket s ≡ Some t → arrays sub limit place m start (found x h s) ≡ None
     unfolding arrays
-    arrays_full zero t none e = behind_goes (λ y. None) (found x h s) s t e ∙ nothing_behind (bound sub t) _ (λ y. refl)
+    arrays_full zero t none e = behind_goes (λ y. None) (found x h s) s t e ∙ nothing_behind (bound sub t) _ (λ y. either_way _ None)
     arrays_full (suc m) t none e = cc
 
-    pub arrays_fail : (m : ℕ) (t : List Lexeme) → after_left_bracket s ≡ Some t → bound sub t ≡ None → arrays sub place (suc m) start (found x h s) ≡ None
+    pub arrays_fail : (m : ℕ) (t : List Lexeme) → after_left_bracket s ≡ Some t → bound sub t ≡ None → arrays sub limit place (suc m) start (found x h s) ≡ None
     unfolding arrays
-    arrays_fail m t e f = behind_goes (arrays sub place m start) (found x h s) s t e ∙ rw f refl
+    arrays_fail m t e f = behind_goes (arrays sub limit place m start) (found x h s) s t e ∙ rw f refl
 
-    pub arrays_go : (m : ℕ) (t : List Lexeme) (y : Read (Option Expr)) → after_left_bracket s ≡ Some t → bound sub t ≡ Some y →
-        arrays sub place (suc m) start (found x h s) ≡ arrays sub place m start (found (d.Array x y.tree start) (suc (max h y.height)) y.rest)
+    pub arrays_high : (m : ℕ) (t : List Lexeme) (y : Read (Option Expr)) → after_left_bracket s ≡ Some t → bound sub t ≡ Some y → limit < suc (max h y.height) →
+        arrays sub limit place (suc m) start (found x h s) ≡ None
     unfolding arrays
-    arrays_go m t y e f = behind_goes (arrays sub place m start) (found x h s) s t e ∙ rw f refl
+    arrays_high m t y e f high = behind_goes (arrays sub limit place m start) (found x h s) s t e ∙ rw (f, lt-leb (suc (max h y.height)) limit high) refl
+
+    pub arrays_go : (m : ℕ) (t : List Lexeme) (y : Read (Option Expr)) → after_left_bracket s ≡ Some t → bound sub t ≡ Some y → suc (max h y.height) ≤ limit →
+        arrays sub limit place (suc m) start (found x h s) ≡ arrays sub limit place m start (found (d.Array x y.tree start) (suc (max h y.height)) y.rest)
+    unfolding arrays
+    arrays_go m t y e f low = behind_goes (arrays sub limit place m start) (found x h s) s t e ∙ rw (f, le-leb (suc (max h y.height)) limit low) refl

@@ -147,21 +147,21 @@ pub low_behind : {A : Type 0} (depth : ℕ) (r : Result (Tall A) ParseFault) (ol
 low_behind depth (Ok x) old mid new less low = omega arith
 low_behind depth (Err e) old mid new less low = tt
 
-module _ (sub : ℕ → List Lexeme → Option (Read Expr)) (place : Place) where
-  group_of_parts : (start star : Place) (r : List PointerWord × List Lexeme) → spec.group_of sub place start star r ≡ abstracts.group_with sub place start star r.0 r.1
+module _ (sub : ℕ → List Lexeme → Option (Read Expr)) (limit : ℕ) (place : Place) where
+  group_of_parts : (start star : Place) (r : List PointerWord × List Lexeme) → spec.group_of sub limit place start star r ≡ abstracts.group_with sub place start star r.0 r.1
   unfolding spec.group_behind
   group_of_parts start star ([], s) = refl
   group_of_parts start star (w ∷ ws, s) =
       sym (bind_bind (spec.after_right_paren s) _ _ ∙ bind_same (spec.after_right_paren s) _ _ (λ t. bind_bind (spec.after_left_bracket t) _ _))
 
-  pub group_parts : (o : Token) (s t : List Lexeme) → s ≡ at (k.Punct p.LeftParen) o ∷ t → spec.abstract_direct sub place s ≡ abstracts.group_at sub place o.place t
-  group_parts o s t e = ap (spec.abstract_direct sub place) e ∙ group_of_parts o.place (place_of t) (spec.stars t)
+  pub group_parts : (o : Token) (s t : List Lexeme) → s ≡ at (k.Punct p.LeftParen) o ∷ t → spec.abstract_direct sub limit place s ≡ abstracts.group_at sub place o.place t
+  group_parts o s t e = ap (spec.abstract_direct sub limit place) e ∙ group_of_parts o.place (place_of t) (spec.stars t)
 
-  pointer_of_parts : (star : Place) (r : List PointerWord × List Lexeme) → spec.abstract_pointer_of sub place star r
-      ≡ (spec.abstract_direct sub place r.1 >>= λ x. Some (found (d.Pointer (pointer.Star ∷ r.0) x.tree star) (suc x.height) x.rest))
+  pointer_of_parts : (star : Place) (r : List PointerWord × List Lexeme) → spec.abstract_pointer_of sub limit place star r
+      ≡ (spec.abstract_direct sub limit place r.1 >>= λ x. Some (found (d.Pointer (pointer.Star ∷ r.0) x.tree star) (suc x.height) x.rest))
   unfolding spec.abstract_pointer
   pointer_of_parts star (ws, s) = refl
 
-  pub pointer_parts : (o : Token) (s t : List Lexeme) → s ≡ at (k.Punct p.Star) o ∷ t → spec.abstract sub place s ≡ abstracts.pointer_at sub place s
+  pub pointer_parts : (o : Token) (s t : List Lexeme) → s ≡ at (k.Punct p.Star) o ∷ t → spec.abstract sub limit place s ≡ abstracts.pointer_at sub limit place s
   unfolding spec.pointer_words
   pointer_parts o s t e = rw e (pointer_of_parts o.place (spec.pointer_words t))

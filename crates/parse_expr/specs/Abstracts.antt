@@ -22,5 +22,5 @@ module _ (sub : ℕ → List Lexeme → Option (Read Expr)) where
   group_at place start s = group_with place start (place_of s) (stars s).0 (stars s).1
 
   -- with its first star
-  abbrev pub pointer_at : Place → List Lexeme → Option (Read Declarator)
-  pointer_at place s = abstract_direct sub place (pointer_words s).1 >>= λ x. Some (found (d.Pointer (pointer_words s).0 x.tree (place_of s)) (suc x.height) x.rest)
+  abbrev pub pointer_at : ℕ → Place → List Lexeme → Option (Read Declarator)
+  pointer_at limit place s = abstract_direct sub limit place (pointer_words s).1 >>= λ x. Some (found (d.Pointer (pointer_words s).0 x.tree (place_of s)) (suc x.height) x.rest)

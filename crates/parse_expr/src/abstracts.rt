@@ -1,6 +1,6 @@
 //! Type names and abstract declarators (C11 6.7.7), and the bounds of arrays (C11 6.7.6.2).
 
-ghost use Rattle.std.specs.Prelude.{◌≡◌, ◌≤◌, ◌<◌, ◌+◌, ◌^◌, length, IfOk};
+ghost use Rattle.std.specs.Prelude.{◌≡◌, ◌≤◌, ◌<◌, ◌+◌, ◌^◌, suc, length, IfOk};
 ghost use Rattle.c_tree.specs.declared.nodes.Declarator.TheVariants as d;
 ghost use Rattle.c_grammar.specs.Terminals.{place_of};
 ghost use Rattle.c_grammar.specs.Reading as spec;
@@ -19,24 +19,17 @@ use parse_tokens::{ParseFault, Tall, Tokens};
 use sqlite_items::{Boxed, Items};
 use std::alloc::{AllocError, Global};
 
-/// How many nodes a declarator may have one in another while it is read. A tree is let go by recursion, and for more
-/// there is no room on the stack: so its answer is want of memory.
-pub const HIGHEST_DECLARATOR: usize = 4_096;
-
 /// `a[b]`, where `a` began at `start`.
 fn array(
     alloc: Global,
-    of: Tall<Declarator>,
+    of: Declarator,
     bound: Option<Boxed<Expr>>,
     start: Place,
 ) -> Result<Declarator, AllocError>
-    ensures { IfOk result (λ x. x ≡ d.Array of.tree bound start) }
+    ensures { IfOk result (λ x. x ≡ d.Array of bound start) }
 {
-    if of.height >= HIGHEST_DECLARATOR {
-        return Err(AllocError);
-    }
     Ok(Declarator::Array {
-        of: Boxed::new(alloc, of.tree)?,
+        of: Boxed::new(alloc, of)?,
         bound,
         place: start,
     })
@@ -92,10 +85,10 @@ impl<F: Fn(Global, &mut Tokens<'_>, usize, u8) -> Result<Tall<Expr>, ParseFault>
         }
     }
 
-    /// Any number of bounds.
+    /// Any number of bounds, of which each makes the tree a node higher.
     fn arrays(&self, tokens: &mut Tokens<'_>, place: Place) -> Result<Tall<Declarator>, ParseFault>
         requires { Nests self.now.depth (F.pre self.now.expr) (F.post self.now.expr) }
-        ensures reads { Gives (spec.arrays (spec.expression self.now.depth) place (length tokens.old) (place_of tokens.old) (spec.found (d.Omitted place) 1 tokens.old)) result tokens.new }
+        ensures reads { Gives (spec.arrays (spec.expression self.now.depth) (suc self.now.depth) place (length tokens.old) (place_of tokens.old) (spec.found (d.Omitted place) 1 tokens.old)) result tokens.new }
         ensures low { Low (self.now.depth + 1) result tokens.old tokens.new }
         ensures few { length tokens.old < 2 ^ 63 }
     {
@@ -107,8 +100,11 @@ impl<F: Fn(Global, &mut Tokens<'_>, usize, u8) -> Result<Tall<Expr>, ParseFault>
                 return Ok(Tall { tree, height });
             }
             let bound = self.bound(tokens)?;
-            tree = array(self.alloc, Tall { tree, height }, bound.tree, start)?;
             height = height.max(bound.height) + 1;
+            if height > self.depth + 1 {
+                return Err(ParseFault::NoDerivation);
+            }
+            tree = array(self.alloc, tree, bound.tree, start)?;
         }
         if tokens.take_left_bracket() {
             Err(ParseFault::NoDerivation)
@@ -148,7 +144,7 @@ impl<F: Fn(Global, &mut Tokens<'_>, usize, u8) -> Result<Tall<Expr>, ParseFault>
         let bound = self.group_bound(tokens)?;
         let tree = pointed(self.alloc, words, Declarator::Omitted { place }, star)?;
         Ok(Tall {
-            tree: array(self.alloc, Tall { tree, height: 2 }, bound.tree, start)?,
+            tree: array(self.alloc, tree, bound.tree, start)?,
             height: 2usize.max(bound.height) + 1,
         })
     }
@@ -159,7 +155,7 @@ impl<F: Fn(Global, &mut Tokens<'_>, usize, u8) -> Result<Tall<Expr>, ParseFault>
         place: Place,
     ) -> Result<Tall<Declarator>, ParseFault>
         requires { Nests self.now.depth (F.pre self.now.expr) (F.post self.now.expr) }
-        ensures reads { Gives (spec.abstract_direct (spec.expression self.now.depth) place tokens.old) result tokens.new }
+        ensures reads { Gives (spec.abstract_direct (spec.expression self.now.depth) (suc self.now.depth) place tokens.old) result tokens.new }
         ensures low { Low (self.now.depth + 1) result tokens.old tokens.new }
         ensures few { length tokens.old < 2 ^ 63 }
     {
@@ -180,7 +176,7 @@ impl<F: Fn(Global, &mut Tokens<'_>, usize, u8) -> Result<Tall<Expr>, ParseFault>
         place: Place,
     ) -> Result<Tall<Declarator>, ParseFault>
         requires { Nests self.now.depth (F.pre self.now.expr) (F.post self.now.expr) }
-        ensures reads { Gives (pointer_at (spec.expression self.now.depth) place tokens.old) result tokens.new }
+        ensures reads { Gives (pointer_at (spec.expression self.now.depth) (suc self.now.depth) place tokens.old) result tokens.new }
         ensures low { Low (self.now.depth + 2) result (spec.pointer_words tokens.old).1 tokens.new }
     {
         let star = tokens.place();
@@ -199,7 +195,7 @@ impl<F: Fn(Global, &mut Tokens<'_>, usize, u8) -> Result<Tall<Expr>, ParseFault>
         place: Place,
     ) -> Result<Tall<Declarator>, ParseFault>
         requires { Nests self.now.depth (F.pre self.now.expr) (F.post self.now.expr) }
-        ensures reads { Gives (spec.abstract (spec.expression self.now.depth) place tokens.old) result tokens.new }
+        ensures reads { Gives (spec.abstract (spec.expression self.now.depth) (suc self.now.depth) place tokens.old) result tokens.new }
         ensures low { Low (self.now.depth + 1) result tokens.old tokens.new }
         ensures few { length tokens.old < 2 ^ 63 }
     {

@@ -1,6 +1,6 @@
 //! Expressions (C11 6.5), and the parts of declarators that lead to them.
 
-ghost use Rattle.std.specs.Prelude.{◌≤◌, ◌<◌, ◌+◌, length, IfOk};
+ghost use Rattle.std.specs.Prelude.{◌≤◌, ◌<◌, ◌+◌, suc, length, IfOk};
 ghost use Rattle.c_grammar.specs.Reading as spec;
 ghost use Rattle.parse_tokens.specs.Gives.{Gives, Low};
 
@@ -61,7 +61,7 @@ pub fn abstract_declarator(
     place: Place,
 ) -> Result<Tall<Declarator>, ParseFault>
     requires { depth < 1000 }
-    ensures reads { Gives (spec.abstract (spec.expression depth) place tokens.old) result tokens.new }
+    ensures reads { Gives (spec.abstract (spec.expression depth) (suc depth) place tokens.old) result tokens.new }
     ensures low { Low (depth + 1) result tokens.old tokens.new }
     ensures on { IfOk result (λ _. length tokens.new ≤ length tokens.old) }
 {

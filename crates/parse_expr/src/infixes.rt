@@ -233,7 +233,8 @@ impl<F: Fn(Global, &mut Tokens<'_>, usize, u8) -> Result<Tall<Expr>, ParseFault>
         }
     }
 
-    /// The same, by as many turns as its height allows.
+    /// An expression of the level or a tighter one, which has begun so; none where it has begun with a looser one. Each
+    /// turn makes the tree a node higher, so no more are needed than it may be high.
     #[tactic(auto, unfolding(c_grammar::specs::Reading::begun))]
     pub fn begun(
         &self,

@@ -8,16 +8,43 @@ use parse_tokens::Tall;
 use sqlite_items::Boxed;
 use std::alloc::{AllocError, Global};
 
-/// The levels of expressions that are asked for (C11 6.5.3 to 6.5.17).
+/// The levels of expressions, of which each has what the one before it has (C11 6.5.1 to 6.5.17).
+pub const PRIMARY: u8 = 0;
+
+pub const POSTFIX: u8 = 1;
+
 pub const UNARY: u8 = 2;
 
 pub const CAST: u8 = 3;
+
+pub const MULTIPLICATIVE: u8 = 4;
+
+pub const ADDITIVE: u8 = 5;
+
+pub const SHIFT: u8 = 6;
+
+pub const RELATIONAL: u8 = 7;
+
+pub const EQUALITY: u8 = 8;
+
+pub const BIT_AND: u8 = 9;
+
+pub const BIT_XOR: u8 = 10;
+
+pub const BIT_OR: u8 = 11;
+
+pub const LOGICAL_AND: u8 = 12;
+
+pub const LOGICAL_OR: u8 = 13;
 
 pub const CONDITIONAL: u8 = 14;
 
 pub const ASSIGNMENT: u8 = 15;
 
 pub const EXPRESSION: u8 = 16;
+
+/// Past all levels: that of a token with which no expression goes on.
+pub const NO_LEVEL: u8 = 17;
 
 /// An expression so far, and its level.
 #[derive(Drop)]

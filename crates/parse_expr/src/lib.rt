@@ -11,7 +11,6 @@ mod roles;
 mod spans;
 mod tails;
 
-pub use abstracts::HIGHEST_DECLARATOR;
 pub use expressions::{abstract_declarator, bound, expression};
 pub use lefts::{ASSIGNMENT, CONDITIONAL, EXPRESSION};
 pub use spans::{ExprForm, parse_expression};

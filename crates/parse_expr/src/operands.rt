@@ -14,7 +14,9 @@ ghost use Rattle.parse_expr.specs.Nests.{Nests};
 ghost use Rattle.parse_expr.specs.Openings.{opens_group, closed_type, converted, sized_type, sized, comma_ended, paren_ended, size_called};
 
 use crate::grammar::Grammar;
-use crate::lefts::{ASSIGNMENT, CAST, CONDITIONAL, EXPRESSION, Left, UNARY, boxed_pair};
+use crate::lefts::{
+    ASSIGNMENT, CAST, CONDITIONAL, EXPRESSION, Left, POSTFIX, PRIMARY, UNARY, boxed_pair,
+};
 use c_grammar::{Keyword, Terminal};
 use c_tokens::{Punct, Token, TokenKind};
 use c_tree::{Expr, ExprKind, PrefixOp, TypeName};
@@ -63,7 +65,7 @@ fn cast(alloc: Global, to: Tall<TypeName>, of: Tall<Expr>, place: Place) -> Resu
 {
     let height = to.height.max(of.height) + 1;
     let of = Boxed::new(alloc, of.tree)?;
-    Ok(Left::new(3, ExprKind::Cast { to: to.tree, of }, place, height))
+    Ok(Left::new(CAST, ExprKind::Cast { to: to.tree, of }, place, height))
 }
 
 /// `__builtin_dynamic_object_size (a, b)`
@@ -79,7 +81,7 @@ fn size_call(
 {
     let height = pointer.height.max(mode.height) + 1;
     let (pointer, mode) = boxed_pair(alloc, pointer.tree, mode.tree)?;
-    Ok(Left::new(1, ExprKind::SizeCall { pointer, mode }, place, height))
+    Ok(Left::new(POSTFIX, ExprKind::SizeCall { pointer, mode }, place, height))
 }
 
 /// Takes a parenthesis without the name of a type behind it, if one comes next.
@@ -108,7 +110,7 @@ impl<F: Fn(Global, &mut Tokens<'_>, usize, u8) -> Result<Tall<Expr>, ParseFault>
         ensures low { IfOk result (λ x. x.height ≤ 1) }
     {
         match constant_of(&token.kind) {
-            Some(kind) => Ok(Left::new(0, kind, token.place, 1)),
+            Some(kind) => Ok(Left::new(PRIMARY, kind, token.place, 1)),
             None => Err(ParseFault::NoDerivation),
         }
     }
@@ -142,7 +144,7 @@ impl<F: Fn(Global, &mut Tokens<'_>, usize, u8) -> Result<Tall<Expr>, ParseFault>
         ensures low { IfOk result (λ x. x.height ≤ self.now.depth + 1) }
     {
         let of = self.closed_type(tokens)?;
-        Ok(Left::new(2, ExprKind::SizeofType(of.tree), place, of.height + 1))
+        Ok(Left::new(UNARY, ExprKind::SizeofType(of.tree), place, of.height + 1))
     }
 
     /// `sizeof a` behind the word (C11 6.5.3.4).
@@ -155,10 +157,11 @@ impl<F: Fn(Global, &mut Tokens<'_>, usize, u8) -> Result<Tall<Expr>, ParseFault>
         let of = self.sub(tokens, UNARY)?;
         let height = of.height + 1;
         let of = Boxed::new(self.alloc, of.tree)?;
-        Ok(Left::new(2, ExprKind::SizeofExpr(of), place, height))
+        Ok(Left::new(UNARY, ExprKind::SizeofExpr(of), place, height))
     }
 
-    /// Both of them, behind the word.
+    /// `sizeof (T)` or `sizeof a` behind the word (C11 6.5.3.4): the first where a bracket comes next, and a specifier
+    /// behind it.
     fn sized(&self, tokens: &mut Tokens<'_>, place: Place) -> Result<Left, ParseFault>
         requires { Nests self.now.depth (F.pre self.now.expr) (F.post self.now.expr) }
         ensures reads { GivesLeft (sized self.now.depth (spec.expression self.now.depth) place tokens.old) result tokens.new }
@@ -230,7 +233,7 @@ impl<F: Fn(Global, &mut Tokens<'_>, usize, u8) -> Result<Tall<Expr>, ParseFault>
                 let of = self.sub(tokens, level)?;
                 let height = of.height + 1;
                 let of = Boxed::new(self.alloc, of.tree)?;
-                Ok(Left::new(2, ExprKind::Prefix { op, of }, place, height))
+                Ok(Left::new(UNARY, ExprKind::Prefix { op, of }, place, height))
             }
             None => Err(ParseFault::NoDerivation),
         }
@@ -247,12 +250,12 @@ impl<F: Fn(Global, &mut Tokens<'_>, usize, u8) -> Result<Tall<Expr>, ParseFault>
         match tokens.next() {
             Some((Terminal::Name, token)) => {
                 let name = copy_text(self.alloc, token)?;
-                Ok(Left::new(0, ExprKind::Name(name), token.place, 1))
+                Ok(Left::new(PRIMARY, ExprKind::Name(name), token.place, 1))
             }
             Some((Terminal::Constant, token)) => self.constant(token),
             Some((Terminal::Str, token)) => {
                 let text = strings(self.alloc, tokens, token)?;
-                Ok(Left::new(0, ExprKind::Str(text), token.place, 1))
+                Ok(Left::new(PRIMARY, ExprKind::Str(text), token.place, 1))
             }
             Some((Terminal::Word(Keyword::Sizeof), token)) => self.sized(tokens, token.place),
             Some((Terminal::Word(Keyword::DynamicObjectSize), token)) => {
@@ -280,7 +283,7 @@ impl<F: Fn(Global, &mut Tokens<'_>, usize, u8) -> Result<Tall<Expr>, ParseFault>
         let inner = self.begun(tokens, EXPRESSION, start, first)?;
         tokens.expect_right_paren()?;
         Ok(Left {
-            level: 0,
+            level: PRIMARY,
             tree: inner.tree,
             height: inner.height,
         })

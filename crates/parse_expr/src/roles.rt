@@ -3,6 +3,10 @@
 ghost use Rattle.std.specs.Prelude.{◌≡◌, ◌≤◌};
 ghost use Rattle.c_grammar.specs.Reading as spec;
 
+use crate::lefts::{
+    ADDITIVE, ASSIGNMENT, BIT_AND, BIT_OR, BIT_XOR, CAST, CONDITIONAL, EQUALITY, EXPRESSION,
+    LOGICAL_AND, LOGICAL_OR, MULTIPLICATIVE, NO_LEVEL, POSTFIX, PRIMARY, RELATIONAL, SHIFT, UNARY,
+};
 use c_grammar::{Role, Terminal};
 use c_tokens::Punct;
 use c_tree::{AssignOp, BinaryOp, PostfixOp};
@@ -32,24 +36,24 @@ fn role_of_punct(punct: Punct) -> Role
         Punct::AmpersandAssign => Role::Assign(AssignOp::BitAnd),
         Punct::CaretAssign => Role::Assign(AssignOp::BitXor),
         Punct::BarAssign => Role::Assign(AssignOp::BitOr),
-        Punct::Star => Role::Join(BinaryOp::Mul, 3),
-        Punct::Slash => Role::Join(BinaryOp::Div, 3),
-        Punct::Percent => Role::Join(BinaryOp::Rem, 3),
-        Punct::Plus => Role::Join(BinaryOp::Add, 4),
-        Punct::Minus => Role::Join(BinaryOp::Sub, 4),
-        Punct::ShiftLeft => Role::Join(BinaryOp::ShiftLeft, 5),
-        Punct::ShiftRight => Role::Join(BinaryOp::ShiftRight, 5),
-        Punct::Less => Role::Join(BinaryOp::Less, 6),
-        Punct::Greater => Role::Join(BinaryOp::Greater, 6),
-        Punct::LessEqual => Role::Join(BinaryOp::LessEqual, 6),
-        Punct::GreaterEqual => Role::Join(BinaryOp::GreaterEqual, 6),
-        Punct::EqualEqual => Role::Join(BinaryOp::Equal, 7),
-        Punct::NotEqual => Role::Join(BinaryOp::NotEqual, 7),
-        Punct::Ampersand => Role::Join(BinaryOp::BitAnd, 8),
-        Punct::Caret => Role::Join(BinaryOp::BitXor, 9),
-        Punct::Bar => Role::Join(BinaryOp::BitOr, 10),
-        Punct::AndAnd => Role::Join(BinaryOp::LogicalAnd, 11),
-        Punct::OrOr => Role::Join(BinaryOp::LogicalOr, 12),
+        Punct::Star => Role::Join(BinaryOp::Mul, CAST),
+        Punct::Slash => Role::Join(BinaryOp::Div, CAST),
+        Punct::Percent => Role::Join(BinaryOp::Rem, CAST),
+        Punct::Plus => Role::Join(BinaryOp::Add, MULTIPLICATIVE),
+        Punct::Minus => Role::Join(BinaryOp::Sub, MULTIPLICATIVE),
+        Punct::ShiftLeft => Role::Join(BinaryOp::ShiftLeft, ADDITIVE),
+        Punct::ShiftRight => Role::Join(BinaryOp::ShiftRight, ADDITIVE),
+        Punct::Less => Role::Join(BinaryOp::Less, SHIFT),
+        Punct::Greater => Role::Join(BinaryOp::Greater, SHIFT),
+        Punct::LessEqual => Role::Join(BinaryOp::LessEqual, SHIFT),
+        Punct::GreaterEqual => Role::Join(BinaryOp::GreaterEqual, SHIFT),
+        Punct::EqualEqual => Role::Join(BinaryOp::Equal, RELATIONAL),
+        Punct::NotEqual => Role::Join(BinaryOp::NotEqual, RELATIONAL),
+        Punct::Ampersand => Role::Join(BinaryOp::BitAnd, EQUALITY),
+        Punct::Caret => Role::Join(BinaryOp::BitXor, BIT_AND),
+        Punct::Bar => Role::Join(BinaryOp::BitOr, BIT_XOR),
+        Punct::AndAnd => Role::Join(BinaryOp::LogicalAnd, BIT_OR),
+        Punct::OrOr => Role::Join(BinaryOp::LogicalOr, LOGICAL_AND),
         _ => Role::End,
     }
 }
@@ -72,13 +76,13 @@ fn role_binds(role: Role) -> u8
     ensures { result ≡ spec.role_binds role }
 {
     match role {
-        Role::Call | Role::Index | Role::Member { .. } | Role::Step(_) => 1,
-        Role::Choice => 14,
-        Role::Assign(_) => 15,
+        Role::Call | Role::Index | Role::Member { .. } | Role::Step(_) => POSTFIX,
+        Role::Choice => CONDITIONAL,
+        Role::Assign(_) => ASSIGNMENT,
         Role::Join(_, level) => level + 1,
-        Role::List => 16,
-        Role::Str => 0,
-        Role::End => 17,
+        Role::List => EXPRESSION,
+        Role::Str => PRIMARY,
+        Role::End => NO_LEVEL,
     }
 }
 
@@ -88,12 +92,12 @@ pub fn role_takes(role: Role) -> u8
     ensures { result ≡ spec.role_takes role }
 {
     match role {
-        Role::Call | Role::Index | Role::Member { .. } | Role::Step(_) => 1,
-        Role::Choice => 13,
-        Role::Assign(_) => 2,
+        Role::Call | Role::Index | Role::Member { .. } | Role::Step(_) => POSTFIX,
+        Role::Choice => LOGICAL_OR,
+        Role::Assign(_) => UNARY,
         Role::Join(_, level) => level + 1,
-        Role::List => 15,
-        Role::Str | Role::End => 0,
+        Role::List => ASSIGNMENT,
+        Role::Str | Role::End => PRIMARY,
     }
 }
 
@@ -103,6 +107,6 @@ pub fn binds(tokens: &Tokens<'_>) -> u8
 {
     match tokens.peek() {
         Some(terminal) => role_binds(role_of(terminal)),
-        None => 17,
+        None => NO_LEVEL,
     }
 }

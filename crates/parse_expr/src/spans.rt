@@ -9,12 +9,9 @@ ghost use Rattle.parse_expr.specs.Forms.{level_of, ends_at_commas};
 use crate::expressions::expression;
 use crate::lefts::{ASSIGNMENT, CONDITIONAL, EXPRESSION};
 use c_tokens::{Punct, Token, TokenKind};
-use c_tree::Expr;
+use c_tree::{Expr, HEIGHT_LIMIT};
 use parse_tokens::{ParseFault, Tokens, TypeNames};
 use std::alloc::Global;
-
-/// The most nodes from the root of a tree to a leaf.
-const HEIGHT_LIMIT: usize = 400;
 
 /// The form in which an expression is asked for.
 #[derive(Clone, Copy, Debug, PartialEq, Eq)]

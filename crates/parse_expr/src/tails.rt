@@ -4,7 +4,7 @@ ghost use Rattle.std.specs.Prelude.{◌≡◌, ◌≤◌, ◌<◌, ◌∷◌, su
 ghost use Rattle.c_tree.specs.declared.nodes.ExprKind.TheVariants as e;
 ghost use Rattle.c_grammar.specs.Expressions.{expr};
 
-use crate::lefts::{Left, boxed_pair};
+use crate::lefts::{ASSIGNMENT, CONDITIONAL, EXPRESSION, Left, POSTFIX, boxed_pair};
 use c_tree::{AssignOp, BinaryOp, Expr, ExprKind, PostfixOp};
 use fc_base::{Place, Text};
 use parse_tokens::Tall;
@@ -49,7 +49,7 @@ pub fn call(alloc: Global, left: Left, args: Tall<Items<Expr>>) -> Result<Left, 
     let height = left.height.max(args.height) + 1;
     let callee = Boxed::new(alloc, left.tree)?;
     let args = args.tree;
-    Ok(Left::new(1, ExprKind::Call { callee, args }, place, height))
+    Ok(Left::new(POSTFIX, ExprKind::Call { callee, args }, place, height))
 }
 
 /// `a[b]` (C11 6.5.2.1).
@@ -60,7 +60,7 @@ pub fn index(alloc: Global, left: Left, index: Tall<Expr>, place: Place) -> Resu
 {
     let height = left.height.max(index.height) + 1;
     let (base, index) = boxed_pair(alloc, left.tree, index.tree)?;
-    Ok(Left::new(1, ExprKind::Index { base, index }, place, height))
+    Ok(Left::new(POSTFIX, ExprKind::Index { base, index }, place, height))
 }
 
 /// `a.b` or `a->b` (C11 6.5.2.3).
@@ -76,7 +76,12 @@ pub fn member(
 {
     let height = left.height + 1;
     let base = Boxed::new(alloc, left.tree)?;
-    Ok(Left::new(1, ExprKind::Member { base, arrow, name }, place, height))
+    Ok(Left::new(
+        POSTFIX,
+        ExprKind::Member { base, arrow, name },
+        place,
+        height,
+    ))
 }
 
 /// `a++` or `a--` (C11 6.5.2.4).
@@ -86,7 +91,7 @@ pub fn step(alloc: Global, left: Left, op: PostfixOp, start: Place) -> Result<Le
 {
     let height = left.height + 1;
     let of = Boxed::new(alloc, left.tree)?;
-    Ok(Left::new(1, ExprKind::Postfix { op, of }, start, height))
+    Ok(Left::new(POSTFIX, ExprKind::Postfix { op, of }, start, height))
 }
 
 /// `a ? b : c` (C11 6.5.15).
@@ -105,7 +110,7 @@ pub fn choice(
     let height = left.height.max(yes.height.max(no.height)) + 1;
     let test = Boxed::new(alloc, left.tree)?;
     let (yes, no) = boxed_pair(alloc, yes.tree, no.tree)?;
-    Ok(Left::new(14, ExprKind::Cond { test, yes, no }, place, height))
+    Ok(Left::new(CONDITIONAL, ExprKind::Cond { test, yes, no }, place, height))
 }
 
 /// `a = b` (C11 6.5.16).
@@ -122,7 +127,7 @@ pub fn assign(
 {
     let height = left.height.max(from.height) + 1;
     let (to, from) = boxed_pair(alloc, left.tree, from.tree)?;
-    Ok(Left::new(15, ExprKind::Assign { op, to, from }, place, height))
+    Ok(Left::new(ASSIGNMENT, ExprKind::Assign { op, to, from }, place, height))
 }
 
 /// `a + b` (C11 6.5.5 to 6.5.14).
@@ -159,5 +164,5 @@ pub fn list(
     let mut all = Items::new(alloc);
     all.push(left.tree)?;
     all.append(others.tree)?;
-    Ok(Left::new(16, ExprKind::Comma(all), start, height))
+    Ok(Left::new(EXPRESSION, ExprKind::Comma(all), start, height))
 }

@@ -33,9 +33,9 @@ pub bound_shorter : (n : ℕ) (s : List Lexeme) → IfSome (bound (expression n)
 bound_shorter n s =
     weaken _ _ (bound (expression n) s) (bound_sound n (expression n) (expression_sound n) s) (λ x d. record { shorter = alike_shorter (bound_moves d.derives []).1 })
 
-pub abstract_kept : (n : ℕ) (place : Place) (s : List Lexeme) → IfSome (abstract (expression n) place s) (Kept s)
-abstract_kept n place s =
-    weaken _ _ (abstract (expression n) place s) (abstract_sound n (expression n) (expression_sound n) place s)
+pub abstract_kept : (n limit : ℕ) (place : Place) (s : List Lexeme) → IfSome (abstract (expression n) limit place s) (Kept s)
+abstract_kept n limit place s =
+    weaken _ _ (abstract (expression n) limit place s) (abstract_sound n (expression n) (expression_sound n) limit place s)
     (λ x d. record { kept = alike_length (abstract_moves d.derives []).1 })
 
 list_within : (o : Token) (s t : List Lexeme) (xs : List Attribute) → IsAttributeList (at (k.Word w.Attribute) o ∷ s) xs t → length t < length s

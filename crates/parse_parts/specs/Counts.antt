@@ -1,5 +1,5 @@
 -- Lists of specifiers and what they count as, as plain data.
-use Rattle.std.specs.Prelude.{◌≡◌, ◌≢◌, ℕ, ◌+◌, List, ◌∷◌, true, Option, Some, None, Result, Ok, Err}
+use Rattle.std.specs.Prelude.{◌≡◌, ◌≢◌, ℕ, ◌+◌, List, ◌∷◌, true, Option, None, Result, Ok, Err}
 use Rattle.c_tokens.specs.declared.tokens.Token.{Token}
 use Rattle.c_tree.specs.declared.nodes.Identifier.{Identifier}
 use Rattle.c_tree.specs.declared.nodes.Spec.{Spec}
@@ -8,10 +8,11 @@ use Rattle.c_grammar.specs.Terminals.{Lexeme, at, is_tag}
 use Rattle.c_grammar.specs.Expressions.{identifier}
 use Rattle.c_grammar.specs.Specifiers as g
 use Rattle.c_grammar.specs.Specifiers.{outer, inner, block}
-use Rattle.c_grammar.specs.Reading.{Read, Counted, Specs, found, tag}
+use Rattle.c_grammar.specs.Reading.{Read, Counted, Specs, tag}
 use Rattle.parse_tokens.specs.declared.faults.ParseFault.{ParseFault}
 use Rattle.parse_tokens.specs.declared.faults.ParseFault.TheVariants as fault
 use Rattle.parse_tokens.specs.declared.faults.Tall.{Tall}
+use Rattle.parse_tokens.specs.Gives.{GivesAs}
 use Rattle.parse_parts.specs.declared.tallies.Context.{Context}
 use Rattle.parse_parts.specs.declared.tallies.Context.TheVariants.{Outer, Inner, Block}
 use Rattle.parse_parts.specs.declared.tallies.Tally.{Tally}
@@ -43,14 +44,19 @@ tally_of a = record {
 abbrev pub total : Tally → ℕ
 total a = a.typedef + a.extern_ + a.static_ + a.inline + a.whole + a.void + a.char + a.short + a.int + a.long + a.signed + a.unsigned
 
--- one specifier, and a list of them, with the height and the tokens that are left
+-- one specifier, and a list of them
+abbrev pub counted_of : held.Counted → Counted
+counted_of x = record { spec = x.spec; tally = tally_of x.tally }
+
+abbrev pub specs_of : SpecList → Specs
+specs_of xs = record { specs = xs.specs; tally = tally_of xs.tally }
+
+-- with the height and the tokens that are left
 abbrev pub GivesCounted : Option (Read Counted) → Result (Tall held.Counted) ParseFault → List Lexeme → Type 0
-GivesCounted read (Ok x) new = read ≡ Some (found (record { spec = x.tree.spec; tally = tally_of x.tree.tally }) x.height new)
-GivesCounted read (Err e) new = e ≢ fault.NoMemory → read ≡ None
+GivesCounted = GivesAs counted_of
 
 abbrev pub GivesSpecs : Option (Read Specs) → Result (Tall SpecList) ParseFault → List Lexeme → Type 0
-GivesSpecs read (Ok x) new = read ≡ Some (found (record { specs = x.tree.specs; tally = tally_of x.tree.tally }) x.height new)
-GivesSpecs read (Err e) new = e ≢ fault.NoMemory → read ≡ None
+GivesSpecs = GivesAs specs_of
 
 -- the tag that comes next
 abbrev pub GivesTag : List Lexeme → Result Identifier ParseFault → List Lexeme → Type 0

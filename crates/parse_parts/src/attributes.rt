@@ -9,7 +9,7 @@ ghost use Rattle.parse_parts.specs.Sides.{side_of};
 use c_grammar::{Brackets, Terminal};
 use c_tokens::{Punct, Token};
 use c_tree::Attribute;
-use parse_tokens::{ParseFault, Tokens, copy_text, copy_token, is_word};
+use parse_tokens::{ParseFault, Tokens, copy_text, is_word};
 use sqlite_items::Items;
 use std::alloc::Global;
 
@@ -86,7 +86,7 @@ fn balanced(alloc: Global, tokens: &mut Tokens<'_>) -> Result<Items<Token>, Pars
             Side::Neither => (),
         }
         if let Some((_, token)) = tokens.next() {
-            all.push(copy_token(alloc, token)?)?;
+            all.push(token.copied(alloc)?)?;
         }
     }
     Err(ParseFault::NoDerivation)

@@ -267,7 +267,7 @@ fn specs_any(
     requires { turns < 2 ^ 63 }
     ensures reads { GivesSpecs (spec.specs_any spec.plain_spec turns tokens.old) result tokens.new }
     ensures low { IfOk result (λ x. x.height ≤ 1) }
-    ensures small { IfOk result (λ x. total x.tree.tally < 2 ^ 64) }
+    ensures small { IfOk result (λ x. total x.tree.tally < 2 ^ 63) }
     ensures on { IfOk result (λ _. length tokens.new < length tokens.old) }
 {
     let mut list = SpecList::new(alloc);
@@ -292,6 +292,7 @@ pub fn plain_specs(
 ) -> Result<Tall<SpecList>, ParseFault>
     ensures reads { GivesSpecs (spec.specs_in spec.plain_spec (context_of context) tokens.old) result tokens.new }
     ensures low { IfOk result (λ x. x.height ≤ 1) }
+    ensures small { IfOk result (λ x. total x.tree.tally < 2 ^ 63) }
     ensures on { IfOk result (λ _. length tokens.new < length tokens.old) }
     ensures few { length tokens.old < 2 ^ 63 }
 {

@@ -11,6 +11,11 @@ abbrev pub Gives : {A : Type 0} → Option (Read A) → Result (Tall A) ParseFau
 Gives read (Ok x) new = read ≡ Some (found x.tree x.height new)
 Gives read (Err e) new = e ≢ fault.NoMemory → read ≡ None
 
+-- the same of a tree that the definitions see in their own way
+abbrev pub GivesAs : {X A : Type 0} → (X → A) → Option (Read A) → Result (Tall X) ParseFault → List Lexeme → Type 0
+GivesAs see read (Ok x) new = read ≡ Some (found (see x.tree) x.height new)
+GivesAs see read (Err e) new = e ≢ fault.NoMemory → read ≡ None
+
 -- a part without a height
 abbrev pub GivesPart : {A : Type 0} → Option (A × List Lexeme) → Result A ParseFault → List Lexeme → Type 0
 GivesPart read (Ok x) new = read ≡ Some (x, new)
@@ -25,7 +30,3 @@ Passes read (Err e) new = e ≢ fault.NoMemory → read ≡ None
 abbrev pub Low : {A : Type 0} → ℕ → Result (Tall A) ParseFault → List Lexeme → List Lexeme → Type 0
 Low depth (Ok x) old new = x.height + length new ≤ depth + length old
 Low depth (Err e) old new = Unit {0}
-
--- the tree that has been found, with the tokens behind it
-abbrev pub as_read : {A : Type 0} → Tall A → List Lexeme → Read A
-as_read x t = found x.tree x.height t

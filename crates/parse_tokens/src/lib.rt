@@ -8,9 +8,8 @@ mod tokens;
 mod type_names;
 mod words;
 
-pub use copies::{copy_text, copy_token, text_of};
+pub use copies::{copy_text, text_of};
 pub use faults::{ParseFault, Tall};
-pub use terminals::{is_spec, is_tag, is_word};
+pub use terminals::{is_tag, is_word};
 pub use tokens::Tokens;
 pub use type_names::TypeNames;
-pub use words::keyword;

@@ -25,22 +25,22 @@ pub loop-terminal-preserved-in_ok-push : goal.loop-terminal-preserved-in_ok-push
 loop-terminal-preserved-in_ok-push c =
     let seen = c.in-Some.ensures.next in
     let taken = c.in-Some-next.ensures.next in
-    let copied = c.in_ok-copy_token.ensures in
+    let copied = c.in_ok-copied.ensures in
     let grown = c.in_ok-push.ensures.ok in
     elim c.match-side_of.branch [
       | in-Opens+in_ok-push-in-Opens w ↦
           (c.loop-terminal.invariant
           ∙ goes_on_opens c.loop-terminal.all c.push-in-Some-next.new.self c.loop-terminal.waiting.items c.match-side_of.waiting.items c.in-Some.terminal _ seen.0
-          c.in-Some-next.token.now c.in_ok-copy_token.field-0 c.loop-terminal.tokens seen.1 c.next.new.self seen.2 taken copied grown w.in-Opens.kind (sym w.in-Opens.ensures)
+          c.in-Some-next.token.now c.in_ok-copied.field-0 c.loop-terminal.tokens seen.1 c.next.new.self seen.2 taken copied grown w.in-Opens.kind (sym w.in-Opens.ensures)
           (ap (λ v. v.items) w.waiting-is ∙ w.in_ok-push-in-Opens.ensures.items))
       | in-Closes+in-Some-pop w ↦
           (c.loop-terminal.invariant
           ∙ goes_on_closes c.loop-terminal.all c.push-in-Some-next.new.self c.loop-terminal.waiting.items c.match-side_of.waiting.items c.in-Some.terminal _ seen.0
-          c.in-Some-next.token.now c.in_ok-copy_token.field-0 c.loop-terminal.tokens seen.1 c.next.new.self seen.2 taken copied grown w.in-Some-pop.open w.in-Closes.kind
+          c.in-Some-next.token.now c.in_ok-copied.field-0 c.loop-terminal.tokens seen.1 c.next.new.self seen.2 taken copied grown w.in-Some-pop.open w.in-Closes.kind
           (sym w.in-Closes.ensures) (w.in-Some-pop.ensures.items ∙ ap (λ v. v.items ++ w.in-Some-pop.open ∷ []) (sym w.waiting-is)) (sym w.if-same_brackets.ensures))
       | in-Neither w ↦
           (c.loop-terminal.invariant
           ∙ goes_on_neither c.loop-terminal.all c.push-in-Some-next.new.self c.loop-terminal.waiting.items c.match-side_of.waiting.items c.in-Some.terminal _ seen.0
-          c.in-Some-next.token.now c.in_ok-copy_token.field-0 c.loop-terminal.tokens seen.1 c.next.new.self seen.2 taken copied grown (sym w.in-Neither.ensures)
+          c.in-Some-next.token.now c.in_ok-copied.field-0 c.loop-terminal.tokens seen.1 c.next.new.self seen.2 taken copied grown (sym w.in-Neither.ensures)
           (ap (λ v. v.items) w.waiting-is))
     ]

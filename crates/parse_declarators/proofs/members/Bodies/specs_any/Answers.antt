@@ -4,7 +4,7 @@ use Rattle.c_grammar.specs.ReadingDeclarators.{outer_spec}
 use Rattle.parse_parts.specs.Counts.{tally_of}
 use Rattle.parse_parts.proofs.SpecSteps.{behind_specs, specs_fail, specs_end, specs_go, specs_over}
 use Rattle.parse_tokens.proofs.Turns.{highest, one_more, no_more}
-use Rattle.parse_declarators.proofs.Binds.{none_along}
+use Rattle.parse_tokens.proofs.Binds.{none_along}
 use Rattle.parse_declarators.proofs.members.Bodies.specs_any.Goals as goal
 
 pub returns-in_err-one-clause-reads : goal.returns-in_err-one-clause-reads

@@ -1,6 +1,6 @@
 use Rattle.std.proofs.Common.{◌≡◌, ◌∙◌, suc, length, [], rules, arith}
 use Rattle.parse_declarators.specs.Named.{as_read}
-use Rattle.parse_declarators.proofs.Binds.{none_along}
+use Rattle.parse_tokens.proofs.Binds.{none_along}
 use Rattle.parse_declarators.proofs.Openings.{around_goes, around_open, around_fails, around_over, paren_taken}
 use Rattle.parse_declarators.proofs.params.Declarators.around.Goals as goal
 

@@ -1,4 +1,4 @@
-use Rattle.std.proofs.Common.{◌≡◌, ◌+◌, ◌≤◌, Some, max, length}
+use Rattle.std.proofs.Common.{◌≡◌, suc, ◌+◌, ◌≤◌, Some, max, length}
 use Rattle.c_grammar.specs.Reading.{expression}
 use Rattle.c_grammar.specs.ReadingDeclarators.{declarator}
 use Rattle.parse_declarators.specs.Named.{as_read}
@@ -9,8 +9,8 @@ abbrev pub invariant-loop-opening : goal.invariant-loop-opening
 invariant-loop-opening g l = record {
   on : length l.tokens ≤ length l.fn.tokens;
   low : l.declarator.height + length l.tokens ≤ max l.fn.inner.height (l.self.depth + 1) + length l.fn.tokens;
-  same : around (expression l.self.depth) (declarator l.self.depth) l.fn.outer (Some (as_read l.fn.inner l.fn.tokens))
-      ≡ around (expression l.self.depth) (declarator l.self.depth) l.outer (Some (as_read l.declarator l.tokens));
+  same : around (suc l.self.depth) (expression l.self.depth) (declarator l.self.depth) l.fn.outer (Some (as_read l.fn.inner l.fn.tokens))
+      ≡ around (suc l.self.depth) (expression l.self.depth) (declarator l.self.depth) l.outer (Some (as_read l.declarator l.tokens));
 }
 
 abbrev pub decreases-loop-opening : goal.decreases-loop-opening

@@ -1,4 +1,4 @@
-use Rattle.std.proofs.Common.{◌≡◌, ◌+◌, ◌-◌, ◌≤◌, length}
+use Rattle.std.proofs.Common.{◌≡◌, suc, ◌+◌, ◌-◌, ◌≤◌, length}
 use Rattle.c_grammar.specs.Reading.{prepended, expression}
 use Rattle.c_grammar.specs.ReadingDeclarators.{params_some, declarator}
 use Rattle.parse_declarators.proofs.params.Declarators.params_some.Given as goal
@@ -7,6 +7,6 @@ abbrev pub invariant-loop-turn : goal.invariant-loop-turn
 invariant-loop-turn g l = record {
   on : length l.tokens ≤ length l.fn.tokens;
   low : l.height + length l.tokens ≤ l.self.depth + 1 + length l.fn.tokens;
-  same : params_some (expression l.self.depth) (declarator l.self.depth) (length l.fn.tokens) l.fn.tokens
-      ≡ prepended l.trees l.height (params_some (expression l.self.depth) (declarator l.self.depth) (l.turns - l._turn) l.tokens);
+  same : params_some (suc l.self.depth) (expression l.self.depth) (declarator l.self.depth) (length l.fn.tokens) l.fn.tokens
+      ≡ prepended l.trees l.height (params_some (suc l.self.depth) (expression l.self.depth) (declarator l.self.depth) (l.turns - l._turn) l.tokens);
 }

@@ -2,7 +2,7 @@ use Rattle.std.proofs.Common.{◌≡◌, ◌∙◌, Some, None, rules, arith}
 use Rattle.parse_declarators.specs.declared.declarators.Suffix.TheVariants as suffix
 use Rattle.parse_declarators.specs.Named.{as_read}
 use Rattle.parse_declarators.specs.Suffixes.{suffix_at}
-use Rattle.parse_declarators.proofs.Binds.{none_along}
+use Rattle.parse_tokens.proofs.Binds.{none_along}
 use Rattle.parse_declarators.proofs.Suffixes.{array_goes, array_fails, function_goes, function_fails, suffixes_over}
 use Rattle.parse_declarators.proofs.params.Declarators.suffixes.Goals as goal
 

@@ -7,7 +7,7 @@ use Rattle.parse_declarators.proofs.params.Declarators.whole.Given as goal
 abbrev pub invariant-loop-outer : goal.invariant-loop-outer
 invariant-loop-outer g l = record {
   on : length l.tokens ≤ length l.fn.tokens;
-  inside : Inside l.self.depth (whole (expression l.self.depth) (declarator l.self.depth) (suc (length l.fn.tokens)) l.fn.tokens) l.outer l.inmost l.tokens;
+  inside : Inside l.self.depth (whole (suc l.self.depth) (expression l.self.depth) (declarator l.self.depth) (suc (length l.fn.tokens)) l.fn.tokens) l.outer l.inmost l.tokens;
 }
 
 abbrev pub decreases-loop-outer : goal.decreases-loop-outer

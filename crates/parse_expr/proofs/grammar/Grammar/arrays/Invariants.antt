@@ -1,4 +1,4 @@
-use Rattle.std.proofs.Common.{◌≡◌, ◌+◌, ◌-◌, ◌≤◌, length}
+use Rattle.std.proofs.Common.{◌≡◌, suc, ◌+◌, ◌-◌, ◌≤◌, length}
 use Rattle.c_tree.specs.declared.nodes.Declarator.TheVariants as d
 use Rattle.c_grammar.specs.Terminals.{place_of}
 use Rattle.c_grammar.specs.Reading as spec
@@ -8,6 +8,6 @@ abbrev pub invariant-loop-turn : goal.invariant-loop-turn
 invariant-loop-turn g l = record {
   low : l.height + length l.tokens ≤ l.self.depth + 1 + length l.fn.tokens;
   on : length l.tokens ≤ length l.fn.tokens;
-  reads : spec.arrays (spec.expression l.self.depth) l.fn.place (length l.fn.tokens) (place_of l.fn.tokens) (spec.found (d.Omitted l.fn.place) 1 l.fn.tokens)
-      ≡ spec.arrays (spec.expression l.self.depth) l.fn.place (length l.fn.tokens - l._turn) (place_of l.fn.tokens) (spec.found l.tree l.height l.tokens);
+  reads : spec.arrays (spec.expression l.self.depth) (suc l.self.depth) l.fn.place (length l.fn.tokens) (place_of l.fn.tokens) (spec.found (d.Omitted l.fn.place) 1 l.fn.tokens)
+      ≡ spec.arrays (spec.expression l.self.depth) (suc l.self.depth) l.fn.place (length l.fn.tokens - l._turn) (place_of l.fn.tokens) (spec.found l.tree l.height l.tokens);
 }
