@@ -6,7 +6,7 @@ use Rattle.c_grammar.specs.declared.terminals.Terminal.TheVariants as k
 use Rattle.c_grammar.specs.Terminals.{Lexeme, at}
 use Rattle.c_grammar.specs.Reading.{Read, ◌>>=◌, found, prepended, expression}
 use Rattle.c_grammar.specs.ReadingStatements.{items, items_by, labelled, labelled_by, with_stmt, statement}
-use Rattle.parse_declarators.specs.Ends.{body_ends}
+use Rattle.parse_declarators.specs.Ends.{body_end_at}
 use Rattle.parse_decl.specs.declared.statements.Beside.{Beside}
 use Rattle.parse_decl.specs.declared.statements.Beside.TheVariants as beside
 use Rattle.parse_decl.specs.Lists.{item_of, stmts_of}
@@ -24,48 +24,48 @@ braced_by later x (false, s) = with_next later x
 
 module _ (n : ℕ) where
   items_braced : (later : List Lexeme → Option (Read (List Stmt))) (s : List Lexeme) →
-      items_by (expression n) (locals n) (statement n) later s ≡ braced_by later (item_of n beside.Declarations s) (body_ends s)
+      items_by (expression n) (locals n) (statement n) later s ≡ braced_by later (item_of n beside.Declarations s) (body_end_at s)
   unfolding with_stmt
   items_braced later [] = refl
   items_braced later (at (k.Punct p.RightBrace) o ∷ t) = refl
   items_braced later (o ∷ t) = refl
 
   labelled_braced : (later : List Lexeme → Option (Read (List Stmt))) (s : List Lexeme) →
-      labelled_by (expression n) (locals n) (statement n) later s ≡ braced_by later (item_of n beside.Labels s) (body_ends s)
+      labelled_by (expression n) (locals n) (statement n) later s ≡ braced_by later (item_of n beside.Labels s) (body_end_at s)
   unfolding with_stmt
   labelled_braced later [] = refl
   labelled_braced later (at (k.Punct p.RightBrace) o ∷ t) = refl
   labelled_braced later (o ∷ t) = refl
 
-  stmts_on : (b : Beside) (m : ℕ) (s : List Lexeme) → stmts_of n b (suc m) s ≡ braced_by (stmts_of n b m) (item_of n b s) (body_ends s)
+  stmts_on : (b : Beside) (m : ℕ) (s : List Lexeme) → stmts_of n b (suc m) s ≡ braced_by (stmts_of n b m) (item_of n b s) (body_end_at s)
   unfolding items labelled
   stmts_on beside.Declarations m s = items_braced (stmts_of n beside.Declarations m) s
   stmts_on beside.Labels m s = labelled_braced (stmts_of n beside.Labels m) s
 
-  stmts_last : (b : Beside) (s : List Lexeme) → stmts_of n b zero s ≡ braced_by (λ t. None) (item_of n b s) (body_ends s)
+  stmts_last : (b : Beside) (s : List Lexeme) → stmts_of n b zero s ≡ braced_by (λ t. None) (item_of n b s) (body_end_at s)
   unfolding items labelled
   stmts_last beside.Declarations s = items_braced (λ t. None) s
   stmts_last beside.Labels s = labelled_braced (λ t. None) s
 
   -- where nothing ends, no token is taken
-  stays : (s t : List Lexeme) → body_ends s ≡ (false, t) → s ≡ t
+  stays : (s t : List Lexeme) → body_end_at s ≡ (false, t) → s ≡ t
   stays [] t e = ap (λ (r : Bool × List Lexeme). r.1) e
   stays (at (k.Punct p.RightBrace) o ∷ u) t e = let other : true ≡ false = ap (λ (r : Bool × List Lexeme). r.0) e in cc
   stays (o ∷ u) t e = ap (λ (r : Bool × List Lexeme). r.1) e
 
   module _ (b : Beside) (xs : List Stmt) (h : ℕ) where
-    pub braced_end : (m : ℕ) (s t : List Lexeme) → body_ends s ≡ (true, t) → prepended xs h (stmts_of n b m s) ≡ Some (found xs h t)
+    pub braced_end : (m : ℕ) (s t : List Lexeme) → body_end_at s ≡ (true, t) → prepended xs h (stmts_of n b m s) ≡ Some (found xs h t)
     braced_end zero s t ends = rw (stmts_last b s, ends) (prepended_last xs h t)
     braced_end (suc m) s t ends = rw (stmts_on b m s, ends) (prepended_last xs h t)
 
-    pub braced_fail : (m : ℕ) (s t : List Lexeme) → body_ends s ≡ (false, t) → item_of n b t ≡ None → prepended xs h (stmts_of n b (suc m) s) ≡ None
+    pub braced_fail : (m : ℕ) (s t : List Lexeme) → body_end_at s ≡ (false, t) → item_of n b t ≡ None → prepended xs h (stmts_of n b (suc m) s) ≡ None
     braced_fail m s t ends none = rw (stmts_on b m s, ends, ap (item_of n b) (stays s t ends) ∙ none) refl
 
-    pub braced_go : (m : ℕ) (s t : List Lexeme) (x : Read Stmt) → body_ends s ≡ (false, t) → item_of n b t ≡ Some x →
+    pub braced_go : (m : ℕ) (s t : List Lexeme) (x : Read Stmt) → body_end_at s ≡ (false, t) → item_of n b t ≡ Some x →
         prepended xs h (stmts_of n b (suc m) s) ≡ prepended (xs ++ x.tree ∷ []) (max h x.height) (stmts_of n b m x.rest)
     braced_go m s t x ends some = rw (stmts_on b m s, ends, ap (item_of n b) (stays s t ends) ∙ some) (prepended-prepended xs (x.tree ∷ []) h x.height (stmts_of n b m x.rest))
 
-    pub braced_over : (s t : List Lexeme) → body_ends s ≡ (false, t) → prepended xs h (stmts_of n b 0 s) ≡ None
+    pub braced_over : (s t : List Lexeme) → body_end_at s ≡ (false, t) → prepended xs h (stmts_of n b 0 s) ≡ None
     braced_over s t ends = rw (stmts_last b s, ends) (go (item_of n b s))
       where
         go : (x : Option (Read Stmt)) → prepended xs h (with_next (λ t. None) x) ≡ None

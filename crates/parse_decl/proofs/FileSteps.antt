@@ -3,6 +3,7 @@ use Rattle.std.proofs.Common.{◌≡◌, ℕ, zero, suc, ◌-◌, List, [], ◌�
 use Rattle.std.specs.Prelude.{Result, Ok, Err}
 use Rattle.std.specs.Result.{IsErrAnd}
 use Rattle.std.proofs.Math.Seq.{take-length}
+use Rattle.fc_base.specs.Answers.{Fails, Answers}
 use Rattle.fc_base.specs.declared.refusals.Fault.{Fault}
 use Rattle.fc_base.specs.declared.refusals.Fault.TheVariants as fault
 use Rattle.fc_base.specs.declared.refusals.Refusal.{Refusal}
@@ -17,7 +18,7 @@ use Rattle.c_grammar.specs.File.{Declarations, behind, Declares, Derives, first_
 use Rattle.c_grammar.specs.Reading.{Read}
 use Rattle.c_grammar.specs.ReadingFile.{NamedExternal, external, goes_on, file}
 use Rattle.c_grammar.proofs.Files.{file_declares}
-use Rattle.parse_decl.specs.Externals.{IsRead, Answers}
+use Rattle.parse_decl.specs.Externals.{IsRead}
 use Rattle.parse_tokens.proofs.Names.{SameNames, lexemes_alike, append_same}
 
 abbrev pub behind_all : List External → Declarations → Declarations
@@ -93,13 +94,13 @@ pub derives_read : (s : List Token) (xs : List External) → first_left_out s �
     Derives s (Ok (record { externals = xs }))
 derives_read s xs kept low read = f.derived kept low (declares_read s (Ok xs) read)
 
-err_read : (s : List Token) (e : Fault) → first_left_out s ≡ None → first_deep 0 s ≡ None → IsRead (file 399 (length s) [] s) (Err e) → Answers {X = FileTree} (Err e) (Derives s)
+err_read : (s : List Token) (e : Fault) → first_left_out s ≡ None → first_deep 0 s ≡ None → IsRead (file 399 (length s) [] s) (Err e) → Fails e (Derives s)
 err_read s fault.NoMemory kept low read = tt
 err_read s (fault.Refused r) kept low read = derives_refused s r kept low read.0 read.1
 
 pub err_derives : (s : List Token) (r : Result FileTree Fault) (e : Fault) → first_left_out s ≡ None → first_deep 0 s ≡ None → IsErrAnd r (λ f. e ≡ f) →
-    IsRead (file 399 (length s) [] s) (Err e) → Answers r (Derives s)
+    IsRead (file 399 (length s) [] s) (Err e) → Answers (λ tree. tree) r (Derives s)
 err_derives s (Ok x) e kept low same read = absurd same
 err_derives s (Err f) e kept low same read =
-    let P : Fault → Type 0 = λ f. Answers {X = FileTree} (Err f) (Derives s) in
+    let P : Fault → Type 0 = λ f. Fails f (Derives s) in
     subst P same (err_read s e kept low read)

@@ -10,7 +10,7 @@ use Rattle.c_grammar.specs.Expressions.{Declared}
 use Rattle.c_grammar.specs.Reading.{Read, ◌>>=◌, found}
 use Rattle.c_grammar.specs.ReadingDeclarators.{Named}
 use Rattle.c_grammar.specs.ReadingStatements.{NamedInit, NamedInits, as_init, attribute_lists, initialised, init_behind, init_declarator, init_declarators, init_declarators_behind, with_init}
-use Rattle.parse_declarators.specs.Ends.{declarators_end}
+use Rattle.parse_declarators.specs.Ends.{declarators_end_at}
 use Rattle.parse_decl.specs.Readers.{init_some, init_at, init_declarator_from, init_declarators_from}
 
 abbrev pub as_inits : List InitDeclarator → List Declared → NamedInits
@@ -46,7 +46,7 @@ module _ (named : List Lexeme → Option (Read Named)) (init : List Lexeme → O
   ended_by later y (Some (false, t)) = with_init named init y (later t)
 
   behind_ends : (later : List Lexeme → Option (Read NamedInits)) (y : Read NamedInit) (s : List Lexeme) →
-      init_declarators_behind named init later y s ≡ ended_by later y (declarators_end s)
+      init_declarators_behind named init later y s ≡ ended_by later y (declarators_end_at s)
   unfolding ended_by
   behind_ends later y [] = refl
   behind_ends later y (at (k.Punct p.Semicolon) o ∷ t) = refl
@@ -104,32 +104,32 @@ module _ (named : List Lexeme → Option (Read Named)) (init : List Lexeme → O
     from_fail none = rw none refl
 
     from_on : (y : Read NamedInit) → init_declarator_from named init x h s ≡ Some y →
-        init_declarators_from named init (suc n) x h s ≡ ended_by (init_declarators named init n) y (declarators_end y.rest)
+        init_declarators_from named init (suc n) x h s ≡ ended_by (init_declarators named init n) y (declarators_end_at y.rest)
     unfolding init_declarators_from
     from_on y some = rw some (behind_ends (init_declarators named init n) y y.rest)
 
-    pub from_no_end : (y : Read NamedInit) → init_declarator_from named init x h s ≡ Some y → declarators_end y.rest ≡ None →
+    pub from_no_end : (y : Read NamedInit) → init_declarator_from named init x h s ≡ Some y → declarators_end_at y.rest ≡ None →
         gathered ts ds hs (init_declarators_from named init (suc n) x h s) ≡ None
     unfolding ended_by
     from_no_end y some none = rw (from_on y some, none) refl
 
-    pub from_end : (y : Read NamedInit) (t : List Lexeme) → init_declarator_from named init x h s ≡ Some y → declarators_end y.rest ≡ Some (true, t) →
+    pub from_end : (y : Read NamedInit) (t : List Lexeme) → init_declarator_from named init x h s ≡ Some y → declarators_end_at y.rest ≡ Some (true, t) →
         gathered ts ds hs (init_declarators_from named init (suc n) x h s)
         ≡ Some (found (as_inits (ts ++ y.tree.tree ∷ []) (ds ++ y.tree.declared ∷ [])) (max hs y.height) t)
     unfolding ended_by
     from_end y t some ends = rw (from_on y some, ends) refl
 
-    from_more : (y : Read NamedInit) (t : List Lexeme) → init_declarator_from named init x h s ≡ Some y → declarators_end y.rest ≡ Some (false, t) →
+    from_more : (y : Read NamedInit) (t : List Lexeme) → init_declarator_from named init x h s ≡ Some y → declarators_end_at y.rest ≡ Some (false, t) →
         gathered ts ds hs (init_declarators_from named init (suc n) x h s)
         ≡ gathered (ts ++ y.tree.tree ∷ []) (ds ++ y.tree.declared ∷ []) (max hs y.height) (init_declarators named init n t)
     unfolding ended_by
     from_more y t some ends = rw (from_on y some, ends) (gathered-with named init ts ds hs y (init_declarators named init n t))
 
-    pub from_no_next : (y : Read NamedInit) (t : List Lexeme) → init_declarator_from named init x h s ≡ Some y → declarators_end y.rest ≡ Some (false, t) → named t ≡ None →
+    pub from_no_next : (y : Read NamedInit) (t : List Lexeme) → init_declarator_from named init x h s ≡ Some y → declarators_end_at y.rest ≡ Some (false, t) → named t ≡ None →
         gathered ts ds hs (init_declarators_from named init (suc n) x h s) ≡ None
     from_no_next y t some ends none = from_more y t some ends ∙ rw (no_first n t none) refl
 
-    pub from_go : (y : Read NamedInit) (t : List Lexeme) (z : Read Named) → init_declarator_from named init x h s ≡ Some y → declarators_end y.rest ≡ Some (false, t) → named t ≡ Some z →
+    pub from_go : (y : Read NamedInit) (t : List Lexeme) (z : Read Named) → init_declarator_from named init x h s ≡ Some y → declarators_end_at y.rest ≡ Some (false, t) → named t ≡ Some z →
         gathered ts ds hs (init_declarators_from named init (suc n) x h s)
         ≡ gathered (ts ++ y.tree.tree ∷ []) (ds ++ y.tree.declared ∷ []) (max hs y.height) (init_declarators_from named init n z.tree z.height z.rest)
     from_go y t z some ends next = from_more y t some ends ∙ rw (from_first n t z next) refl

@@ -6,7 +6,7 @@ use Rattle.c_grammar.specs.declared.terminals.Terminal.TheVariants as k
 use Rattle.c_grammar.specs.Terminals.{Lexeme, at}
 use Rattle.c_grammar.specs.Reading.{Read, found, prepended}
 use Rattle.c_grammar.specs.ReadingStatements.{inits, inits_behind, inits_comma}
-use Rattle.parse_declarators.specs.Ends.{enumerators_end, body_ends}
+use Rattle.parse_declarators.specs.Ends.{enumerators_end_at, body_end_at}
 use Rattle.parse_tokens.proofs.Turns.{prepended-prepended}
 
 -- a list goes on behind an item, or ends there
@@ -17,13 +17,13 @@ ended_by later x h (Some (false, t)) = prepended (x ∷ []) h (later t)
 
 module _ (deep : List Lexeme → Option (Read Init)) where
   comma_ends : (later : List Lexeme → Option (Read (List Init))) (x : Read Init) (s : List Lexeme) →
-      inits_comma deep later x s ≡ ended_by later x.tree x.height (Some (body_ends s))
+      inits_comma deep later x s ≡ ended_by later x.tree x.height (Some (body_end_at s))
   comma_ends later x [] = refl
   comma_ends later x (at (k.Punct p.RightBrace) o ∷ t) = refl
   comma_ends later x (o ∷ t) = refl
 
   behind_ends : (later : List Lexeme → Option (Read (List Init))) (x : Read Init) (s : List Lexeme) →
-      inits_behind deep later x s ≡ ended_by later x.tree x.height (enumerators_end s)
+      inits_behind deep later x s ≡ ended_by later x.tree x.height (enumerators_end_at s)
   behind_ends later x [] = refl
   behind_ends later x (at (k.Punct p.RightBrace) o ∷ t) = refl
   behind_ends later x (at (k.Punct p.Comma) o ∷ t) = comma_ends later x t
@@ -34,18 +34,18 @@ module _ (deep : List Lexeme → Option (Read Init)) where
     unfolding inits
     inits_fail none = rw none refl
 
-    inits_on : (x : Read Init) → deep s ≡ Some x → inits deep (suc n) s ≡ ended_by (inits deep n) x.tree x.height (enumerators_end x.rest)
+    inits_on : (x : Read Init) → deep s ≡ Some x → inits deep (suc n) s ≡ ended_by (inits deep n) x.tree x.height (enumerators_end_at x.rest)
     unfolding inits
     inits_on x some = rw some (behind_ends (inits deep n) x x.rest)
 
-    pub inits_no_end : (x : Read Init) → deep s ≡ Some x → enumerators_end x.rest ≡ None → prepended xs h (inits deep (suc n) s) ≡ None
+    pub inits_no_end : (x : Read Init) → deep s ≡ Some x → enumerators_end_at x.rest ≡ None → prepended xs h (inits deep (suc n) s) ≡ None
     inits_no_end x some none = rw (inits_on x some, none) refl
 
-    pub inits_end : (x : Read Init) (t : List Lexeme) → deep s ≡ Some x → enumerators_end x.rest ≡ Some (true, t) →
+    pub inits_end : (x : Read Init) (t : List Lexeme) → deep s ≡ Some x → enumerators_end_at x.rest ≡ Some (true, t) →
         prepended xs h (inits deep (suc n) s) ≡ Some (found (xs ++ x.tree ∷ []) (max h x.height) t)
     inits_end x t some ends = rw (inits_on x some, ends) refl
 
-    pub inits_go : (x : Read Init) (t : List Lexeme) → deep s ≡ Some x → enumerators_end x.rest ≡ Some (false, t) →
+    pub inits_go : (x : Read Init) (t : List Lexeme) → deep s ≡ Some x → enumerators_end_at x.rest ≡ Some (false, t) →
         prepended xs h (inits deep (suc n) s) ≡ prepended (xs ++ x.tree ∷ []) (max h x.height) (inits deep n t)
     inits_go x t some ends = rw (inits_on x some, ends) (prepended-prepended xs (x.tree ∷ []) h x.height (inits deep n t))
 

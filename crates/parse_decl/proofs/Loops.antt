@@ -6,11 +6,10 @@ use Rattle.std.specs.Ordering.{ord_max, nat_cmp}
 use Rattle.std.proofs.lemmas.Grind.{common_steps}
 use Rattle.c_grammar.specs.Terminals.{Lexeme}
 use Rattle.c_grammar.specs.Reading.{Read}
-use Rattle.parse_tokens.specs.Gives.{Gives, GivesPart}
+use Rattle.parse_tokens.specs.Gives.{Gives, GivesAs, GivesPart}
 use Rattle.parse_tokens.specs.declared.faults.ParseFault.{ParseFault}
 use Rattle.parse_tokens.specs.declared.faults.ParseFault.TheVariants as fault
 use Rattle.parse_tokens.specs.declared.faults.Tall.{Tall}
-use Rattle.parse_decl.specs.Declarations.{GivesAs}
 
 -- what `a.max(b)` gives
 pub highest : (a b : ℕ) → ord_max nat_cmp a b ≡ max a b

@@ -1,12 +1,7 @@
 -- What functions that read declarations ensure.
-use Rattle.std.specs.Prelude.{◌≡◌, ◌≢◌, List, map, Option, Some, None, Result, Ok, Err}
-use Rattle.c_grammar.specs.Terminals.{Lexeme}
+use Rattle.std.specs.Prelude.{map}
 use Rattle.c_grammar.specs.Expressions as g
-use Rattle.c_grammar.specs.Reading.{Read, found}
 use Rattle.c_grammar.specs.ReadingStatements as spec
-use Rattle.parse_tokens.specs.declared.faults.ParseFault.{ParseFault}
-use Rattle.parse_tokens.specs.declared.faults.ParseFault.TheVariants as fault
-use Rattle.parse_tokens.specs.declared.faults.Tall.{Tall}
 use Rattle.parse_declarators.specs.Named.{nearest_of}
 use Rattle.parse_decl.specs.declared.declarations.Declared.{Declared}
 use Rattle.parse_decl.specs.declared.declarations.NamedInit.{NamedInit}
@@ -24,8 +19,3 @@ inits_of x = record { trees = x.trees; declared = map declared_of x.declared }
 
 abbrev pub local_of : Local → spec.Local
 local_of x = record { specs = x.specs; declarators = x.declarators }
-
--- what reading finds, as the code has it, unless memory fails
-abbrev pub GivesAs : {X A : Type 0} → (X → A) → Option (Read A) → Result (Tall X) ParseFault → List Lexeme → Type 0
-GivesAs see read (Ok x) new = read ≡ Some (found (see x.tree) x.height new)
-GivesAs see read (Err e) new = e ≢ fault.NoMemory → read ≡ None

@@ -1,7 +1,6 @@
 -- What functions that read external declarations and files ensure.
 use Rattle.std.specs.Prelude.{◌≡◌, ℕ, suc, max, List, Option, Result, Ok, Err}
 use Rattle.fc_base.specs.declared.refusals.Place.{Place}
-use Rattle.fc_base.specs.declared.refusals.Refusal.{Refusal}
 use Rattle.fc_base.specs.declared.refusals.Fault.{Fault}
 use Rattle.fc_base.specs.declared.refusals.Fault.TheVariants as refused
 use Rattle.fc_base.specs.declared.rules.Rule.TheVariants as rule
@@ -15,13 +14,8 @@ use Rattle.c_grammar.specs.ReadingDeclarators.{declarator}
 use Rattle.c_grammar.specs.ReadingStatements.{initialiser}
 use Rattle.c_grammar.specs.ReadingFile as r
 use Rattle.c_grammar.specs.ReadingFile.{as_external}
-use Rattle.parse_parts.specs.Counts.{tally_of}
-use Rattle.parse_parts.specs.declared.specifiers.SpecList.{SpecList}
 use Rattle.parse_decl.specs.declared.externals.NamedExternal.{NamedExternal}
 use Rattle.parse_decl.specs.Readers.{init_declarators_from}
-
-abbrev pub specs_of : SpecList → Specs
-specs_of xs = record { specs = xs.specs; tally = tally_of xs.tally }
 
 abbrev pub external_of : NamedExternal → r.NamedExternal
 external_of x = as_external x.tree x.names
@@ -38,9 +32,3 @@ abbrev pub IsRead : Declarations → Result (List External) Fault → Type 0
 IsRead read (Ok xs) = read ≡ Ok xs
 IsRead read (Err refused.NoMemory) = Unit {0}
 IsRead read (Err (refused.Refused r)) = (r.rule ≡ rule.Syntax) × (read ≡ Err r.place)
-
--- the answer has the property, unless memory ran out
-abbrev pub Answers : {X : Type 0} → Result X Fault → (Result X Refusal → Type 0) → Type 0
-Answers (Ok x) P = P (Ok x)
-Answers (Err refused.NoMemory) P = Unit {0}
-Answers (Err (refused.Refused r)) P = P (Err r)

@@ -4,16 +4,16 @@ ghost use Rattle.std.specs.Prelude.{◌≡◌, ◌<◌, ◌≤◌, ◌+◌, ◌*
 ghost use Rattle.c_grammar.specs.Statements.{are_objects, is_object};
 ghost use Rattle.c_grammar.specs.ReadingDeclarators.{declarator};
 ghost use Rattle.c_grammar.specs.ReadingStatements as spec;
-ghost use Rattle.parse_tokens.specs.Gives.{Gives, GivesPart};
+ghost use Rattle.parse_tokens.specs.Gives.{Gives, GivesAs, GivesPart};
 ghost use Rattle.parse_declarators.specs.Named.{named_of, nearest_of};
-ghost use Rattle.parse_decl.specs.Declarations.{GivesAs, declared_of, init_of, inits_of, local_of};
+ghost use Rattle.parse_decl.specs.Declarations.{declared_of, init_of, inits_of, local_of};
 ghost use Rattle.parse_decl.specs.Readers.{Within, attribute_at, init_at, init_declarator_from, init_declarators_from, locals};
 
 use crate::initialisers::initialiser;
 use c_grammar::{Keyword, Terminal};
 use c_tokens::Punct;
 use c_tree::{Attribute, Init, InitDeclarator, Spec};
-use parse_declarators::{Named, Nearest, declarator, declarators_end};
+use parse_declarators::{Named, Nearest, declarator, take_declarators_end};
 use parse_parts::{Context, SpecList, attribute_list, plain_specs};
 use parse_tokens::{ParseFault, Tall, Tokens};
 use sqlite_items::Items;
@@ -166,7 +166,7 @@ pub fn init_declarators<'a>(
         found.trees.push(tree)?;
         found.declared.push(declared)?;
         height = height.max(next.height);
-        if declarators_end(tokens)? {
+        if take_declarators_end(tokens)? {
             return Ok(Tall {
                 tree: found,
                 height,

@@ -5,10 +5,11 @@ ghost use Rattle.c_grammar.specs.Terminals.{Lexeme, header_types};
 ghost use Rattle.c_grammar.specs.File.{type_names};
 ghost use Rattle.c_grammar.specs.Reading.{bounded, found};
 ghost use Rattle.c_grammar.specs.ReadingFile as spec;
-ghost use Rattle.parse_parts.specs.Counts.{tally_of};
+ghost use Rattle.parse_tokens.specs.Gives.{GivesAs};
+ghost use Rattle.parse_parts.specs.Counts.{specs_of, tally_of};
 ghost use Rattle.parse_declarators.specs.Named.{named_of};
-ghost use Rattle.parse_decl.specs.Declarations.{GivesAs, declared_of};
-ghost use Rattle.parse_decl.specs.Externals.{declared_from, external_of, specs_of};
+ghost use Rattle.parse_decl.specs.Declarations.{declared_of};
+ghost use Rattle.parse_decl.specs.Externals.{declared_from, external_of};
 ghost use Rattle.parse_decl.specs.Readers.{brace_at};
 
 use crate::declarations::{Declared, init_declarators};

@@ -7,19 +7,17 @@ ghost use Rattle.c_grammar.specs.File.{Derives};
 ghost use Rattle.c_grammar.specs.Terminals.{has, lexeme};
 ghost use Rattle.c_grammar.specs.Reading.{Read};
 ghost use Rattle.c_grammar.specs.ReadingFile as spec;
-ghost use Rattle.parse_decl.specs.Externals.{Answers, IsRead, external_of};
+ghost use Rattle.fc_base.specs.Answers.{Answers};
+ghost use Rattle.parse_decl.specs.Externals.{IsRead, external_of};
 
 use crate::externals::{NamedExternal, external};
 use crate::limits::{deep_bracket, left_out_keyword};
 use c_tokens::Token;
-use c_tree::{External, FileTree};
+use c_tree::{External, FileTree, HEIGHT_LIMIT};
 use fc_base::{Fault, NoMemory, Place, Refusal, Rule, Text};
 use parse_tokens::{ParseFault, Tokens, TypeNames};
 use sqlite_items::Items;
 use std::alloc::Global;
-
-/// The most nodes from the root of a tree to a leaf.
-const HEIGHT_LIMIT: usize = 400;
 
 fn refused(rule: Rule, place: Place) -> Fault
     ensures { result ≡ Fault.Refused (record { rule = rule; place = place }) }
@@ -92,7 +90,7 @@ fn declarations(alloc: Global, tokens: &[Token]) -> Result<Items<External>, Faul
 /// The tree of a file, or the first rule that it breaks: a keyword that the grammar leaves out, too many open brackets,
 /// or an external declaration without a derivation whose tree is not too high.
 pub fn parse(alloc: Global, tokens: &[Token]) -> Result<FileTree, Fault>
-    ensures { Answers result (Derives tokens.now) }
+    ensures { Answers (λ tree. tree) result (Derives tokens.now) }
 {
     if let Some(place) = left_out_keyword(tokens) {
         return Err(refused(Rule::LeftOutKeyword, place));

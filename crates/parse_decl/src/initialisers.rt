@@ -12,7 +12,7 @@ use c_grammar::Terminal;
 use c_tokens::Punct;
 use c_tree::Init;
 use fc_base::Place;
-use parse_declarators::enumerators_end;
+use parse_declarators::take_enumerators_end;
 use parse_expr::{ASSIGNMENT, expression};
 use parse_tokens::{ParseFault, Tall, Tokens};
 use sqlite_items::Items;
@@ -48,7 +48,7 @@ impl<F: Fn(Global, &mut Tokens<'_>, usize) -> Result<Tall<Init>, ParseFault>> In
             let next = self.sub(tokens)?;
             trees.push(next.tree)?;
             height = height.max(next.height);
-            if enumerators_end(tokens)? {
+            if take_enumerators_end(tokens)? {
                 return Ok(Tall {
                     tree: trees,
                     height,

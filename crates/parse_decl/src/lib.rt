@@ -7,13 +7,7 @@ mod file;
 mod initialisers;
 mod limits;
 mod optional;
-#[cfg(test)]
-mod row_printing;
-#[cfg(test)]
-mod row_tokens;
 mod simple_statements;
 mod statements;
-#[cfg(test)]
-mod tests;
 
 pub use file::parse;

@@ -19,7 +19,7 @@ use c_grammar::{Keyword, Terminal};
 use c_tokens::Punct;
 use c_tree::{Expr, Stmt};
 use fc_base::Place;
-use parse_declarators::body_ends;
+use parse_declarators::take_body_end;
 use parse_tokens::{ParseFault, Tall, Tokens};
 use sqlite_items::{Boxed, Items};
 use std::alloc::Global;
@@ -85,7 +85,7 @@ impl<F: Fn(Global, &mut Tokens<'_>, usize) -> Result<Tall<Stmt>, ParseFault>> St
             mut height,
         } = first;
         for _turn in 0..turns {
-            if body_ends(tokens) {
+            if take_body_end(tokens) {
                 return Ok(Tall {
                     tree: trees,
                     height,
@@ -95,7 +95,7 @@ impl<F: Fn(Global, &mut Tokens<'_>, usize) -> Result<Tall<Stmt>, ParseFault>> St
             trees.push(next.tree)?;
             height = height.max(next.height);
         }
-        if body_ends(tokens) {
+        if take_body_end(tokens) {
             Ok(Tall {
                 tree: trees,
                 height,

@@ -1,12 +1,14 @@
-//! Rows of expressions with the trees that C11 6.5 gives them, worked out by hand. There is nothing here but tests: they
-//! stand apart from the parser, so that its proof isn't repeated for them.
+//! Rows of sources with their trees and refusals, worked out by hand from C11. There is nothing here but tests: they
+//! stand apart from the parsers, so that no proof is repeated for them.
 #![tactic(auto)]
 
 #[cfg(test)]
-mod labels;
+mod declarations;
 #[cfg(test)]
-mod printing;
+mod expressions;
 #[cfg(test)]
-mod tests;
+mod files;
 #[cfg(test)]
-mod tokens;
+mod sources;
+#[cfg(test)]
+mod statements;

@@ -20,7 +20,7 @@ loop-turn-preserved c =
     let trees = c.in_ok-push.ensures in
     let names = c.in_ok-push-2.ensures in
     let higher = c.max-height.ensures ∙ highest c.loop-turn.height c.in_ok-next.next.height in
-    let ends = rw c.if-branch.false at c.in_ok-declarators_end.ensures.reads in
+    let ends = rw c.if-branch.false at c.in_ok-take_declarators_end.ensures.reads in
     record {
       low = omega (arith, higher, c.in_ok-next.ensures.low, c.loop-turn.invariant.low);
       next_low = omega (arith, c.in_ok-named.ensures.few);
@@ -36,13 +36,13 @@ returns-in_err-next-clause-reads c =
     λ other. e ∙ from_fail _ _ _ _ _ _ _ _ _ (c.in_err-next.ensures.reads other) in
     search (rules, none)
 
-pub returns-in_err-declarators_end-clause-reads : goal.returns-in_err-declarators_end-clause-reads
-returns-in_err-declarators_end-clause-reads c =
+pub returns-in_err-take_declarators_end-clause-reads : goal.returns-in_err-take_declarators_end-clause-reads
+returns-in_err-take_declarators_end-clause-reads c =
     let e = one_more (λ n. gathered c.loop-turn.found.trees (map declared_of c.loop-turn.found.declared) c.loop-turn.height
     (init_declarators_from (declarator c.args.depth) (initialiser c.args.depth) n (named_of c.loop-turn.named.tree) c.loop-turn.named.height c.loop-turn.tokens))
     _ c.loop-turn._turn c.loop-turn-test.true c.loop-turn.invariant.reads in
-    let none : c.in_err-declarators_end.field-0.0 ≢ fault.NoMemory → init_declarators_from (declarator c.args.depth) (initialiser c.args.depth) c.args.turns (named_of c.args.first.tree) c.args.first.height c.args.tokens.now ≡ None =
-    λ other. e ∙ from_no_end _ _ _ _ _ _ _ _ _ _ c.in_ok-next.ensures.reads (c.in_err-declarators_end.ensures.reads other) in
+    let none : c.in_err-take_declarators_end.field-0.0 ≢ fault.NoMemory → init_declarators_from (declarator c.args.depth) (initialiser c.args.depth) c.args.turns (named_of c.args.first.tree) c.args.first.height c.args.tokens.now ≡ None =
+    λ other. e ∙ from_no_end _ _ _ _ _ _ _ _ _ _ c.in_ok-next.ensures.reads (c.in_err-take_declarators_end.ensures.reads other) in
     search (rules, none)
 
 pub returns-then-branch-clause-reads : goal.returns-then-branch-clause-reads
@@ -53,7 +53,7 @@ returns-then-branch-clause-reads c =
     let trees = c.in_ok-push.ensures in
     let names = c.in_ok-push-2.ensures in
     let higher = c.max-height.ensures ∙ highest c.loop-turn.height c.in_ok-next.next.height in
-    let ends = rw c.if-branch.true at c.in_ok-declarators_end.ensures.reads in
+    let ends = rw c.if-branch.true at c.in_ok-take_declarators_end.ensures.reads in
     e ∙ rw (trees.ok, names.ok, higher, map-append) (from_end _ _ _ _ _ _ _ _ _ _ _ c.in_ok-next.ensures.reads ends)
 
 pub returns-in_err-named-clause-reads : goal.returns-in_err-named-clause-reads
@@ -61,7 +61,7 @@ returns-in_err-named-clause-reads c =
     let e = one_more (λ n. gathered c.loop-turn.found.trees (map declared_of c.loop-turn.found.declared) c.loop-turn.height
     (init_declarators_from (declarator c.args.depth) (initialiser c.args.depth) n (named_of c.loop-turn.named.tree) c.loop-turn.named.height c.loop-turn.tokens))
     _ c.loop-turn._turn c.loop-turn-test.true c.loop-turn.invariant.reads in
-    let ends = rw c.if-branch.false at c.in_ok-declarators_end.ensures.reads in
+    let ends = rw c.if-branch.false at c.in_ok-take_declarators_end.ensures.reads in
     let none : c.in_err-named.field-0.0 ≢ fault.NoMemory → init_declarators_from (declarator c.args.depth) (initialiser c.args.depth) c.args.turns (named_of c.args.first.tree) c.args.first.height c.args.tokens.now ≡ None =
     λ other. e ∙ from_no_next _ _ _ _ _ _ _ _ _ _ _ c.in_ok-next.ensures.reads ends (c.in_err-named.ensures.reads other) in
     let same : IsErrAnd c.from_residual-in_err-named.result (λ f. c.in_err-named.field-0.0 ≡ f) = search rules in

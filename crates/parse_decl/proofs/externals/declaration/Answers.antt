@@ -2,7 +2,7 @@ use Rattle.std.proofs.Common.{◌≡◌, ◌≢◌, None, rules}
 use Rattle.std.specs.Result.{IsErrAnd}
 use Rattle.parse_tokens.specs.declared.faults.ParseFault.TheVariants as fault
 use Rattle.c_grammar.specs.Reading.{found}
-use Rattle.parse_decl.specs.Externals.{specs_of}
+use Rattle.parse_parts.specs.Counts.{specs_of}
 use Rattle.parse_decl.proofs.Loops.{err_gives_as}
 use Rattle.parse_decl.proofs.Locals.{declaration_fails, declaration_body, declaration_rest}
 use Rattle.c_grammar.specs.ReadingFile.{body, declaration}

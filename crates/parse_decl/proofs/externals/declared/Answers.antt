@@ -2,9 +2,9 @@ use Rattle.std.proofs.Common.{◌≡◌, ◌≢◌, suc, ◌+◌, max, None, map
 use Rattle.std.specs.Result.{IsErrAnd}
 use Rattle.parse_tokens.specs.declared.faults.ParseFault.TheVariants as fault
 use Rattle.c_grammar.specs.File.{type_names}
-use Rattle.parse_parts.specs.Counts.{tally_of}
+use Rattle.parse_parts.specs.Counts.{specs_of, tally_of}
 use Rattle.parse_decl.specs.Declarations.{declared_of}
-use Rattle.parse_decl.specs.Externals.{declared_from, specs_of}
+use Rattle.parse_decl.specs.Externals.{declared_from}
 use Rattle.parse_declarators.specs.Named.{named_of}
 use Rattle.parse_decl.proofs.Loops.{err_gives_as}
 use Rattle.parse_decl.proofs.Locals.{declared_read, declared_fails}

@@ -5,8 +5,9 @@ use Rattle.c_tree.specs.declared.statements.Stmt.TheVariants as stmt
 use Rattle.c_tree.specs.declared.externals.External.TheVariants as x
 use Rattle.c_grammar.specs.Reading.{bounded, found}
 use Rattle.c_grammar.specs.ReadingFile.{as_external, body}
-use Rattle.parse_decl.specs.Declarations.{GivesAs}
-use Rattle.parse_decl.specs.Externals.{external_of, specs_of}
+use Rattle.parse_tokens.specs.Gives.{GivesAs}
+use Rattle.parse_parts.specs.Counts.{specs_of}
+use Rattle.parse_decl.specs.Externals.{external_of}
 use Rattle.parse_declarators.specs.Named.{named_of}
 use Rattle.parse_decl.proofs.Loops.{err_gives_as}
 use Rattle.parse_decl.proofs.Locals.{body_read, body_fails}

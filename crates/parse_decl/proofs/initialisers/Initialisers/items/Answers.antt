@@ -14,11 +14,11 @@ returns-in_err-next-clause-reads g c =
     λ other. e ∙ inits_fail _ _ _ _ _ (c.in_err-next.ensures.reads other) in
     search (rules, none)
 
-pub returns-in_err-enumerators_end-clause-reads : goal.returns-in_err-enumerators_end-clause-reads
-returns-in_err-enumerators_end-clause-reads g c =
+pub returns-in_err-take_enumerators_end-clause-reads : goal.returns-in_err-take_enumerators_end-clause-reads
+returns-in_err-take_enumerators_end-clause-reads g c =
     let e = one_more (λ n. prepended c.loop-turn.trees c.loop-turn.height (inits (initialiser c.args.self.now.depth) n c.loop-turn.tokens)) _ c.loop-turn._turn c.loop-turn-test.true c.loop-turn.invariant.reads in
-    let none : c.in_err-enumerators_end.field-0.0 ≢ fault.NoMemory → inits (initialiser c.args.self.now.depth) (length c.args.tokens.now) c.args.tokens.now ≡ None =
-    λ other. e ∙ inits_no_end _ _ _ _ _ _ c.in_ok-next.ensures.reads (c.in_err-enumerators_end.ensures.reads other) in
+    let none : c.in_err-take_enumerators_end.field-0.0 ≢ fault.NoMemory → inits (initialiser c.args.self.now.depth) (length c.args.tokens.now) c.args.tokens.now ≡ None =
+    λ other. e ∙ inits_no_end _ _ _ _ _ _ c.in_ok-next.ensures.reads (c.in_err-take_enumerators_end.ensures.reads other) in
     search (rules, none)
 
 pub returns-then-branch-clause-reads : goal.returns-then-branch-clause-reads
@@ -26,7 +26,7 @@ returns-then-branch-clause-reads g c =
     let e = one_more (λ n. prepended c.loop-turn.trees c.loop-turn.height (inits (initialiser c.args.self.now.depth) n c.loop-turn.tokens)) _ c.loop-turn._turn c.loop-turn-test.true c.loop-turn.invariant.reads in
     let grown = c.in_ok-push.ensures in
     let higher = c.max-height.ensures ∙ highest c.loop-turn.height c.in_ok-next.next.height in
-    let ends = rw c.if-branch.true at c.in_ok-enumerators_end.ensures.reads in
+    let ends = rw c.if-branch.true at c.in_ok-take_enumerators_end.ensures.reads in
     e ∙ rw (grown.ok, higher) (inits_end _ _ _ _ _ _ _ c.in_ok-next.ensures.reads ends)
 
 pub loop-turn-preserved : goal.loop-turn-preserved
@@ -34,7 +34,7 @@ loop-turn-preserved g c =
     let e = one_more (λ n. prepended c.loop-turn.trees c.loop-turn.height (inits (initialiser c.args.self.now.depth) n c.loop-turn.tokens)) _ c.loop-turn._turn c.loop-turn-test.true c.loop-turn.invariant.reads in
     let grown = c.in_ok-push.ensures in
     let higher = c.max-height.ensures ∙ highest c.loop-turn.height c.in_ok-next.next.height in
-    let ends = rw c.if-branch.false at c.in_ok-enumerators_end.ensures.reads in
+    let ends = rw c.if-branch.false at c.in_ok-take_enumerators_end.ensures.reads in
     record {
       low = omega (arith, higher, c.in_ok-next.ensures.low, c.loop-turn.invariant.low);
       reads = e ∙ rw (grown.ok, higher) (inits_go _ _ _ _ _ _ _ c.in_ok-next.ensures.reads ends);

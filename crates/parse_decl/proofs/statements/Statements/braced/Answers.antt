@@ -8,16 +8,16 @@ use Rattle.parse_decl.proofs.Loops.{err_gives}
 use Rattle.parse_decl.proofs.Braced.{braced_end, braced_fail, braced_go, braced_over}
 use Rattle.parse_decl.proofs.statements.Statements.braced.Goals as goal
 
-pub returns-then-body_ends-clause-reads : goal.returns-then-body_ends-clause-reads
-returns-then-body_ends-clause-reads g c =
+pub returns-then-take_body_end-clause-reads : goal.returns-then-take_body_end-clause-reads
+returns-then-take_body_end-clause-reads g c =
     let e = one_more (λ n. prepended c.loop-turn.trees c.loop-turn.height (stmts_of c.args.self.now.depth c.args.beside n c.loop-turn.tokens)) _ c.loop-turn._turn c.loop-turn-test.true c.loop-turn.invariant.reads in
-    e ∙ braced_end _ _ _ _ _ _ _ c.if-body_ends.ensures.reads
+    e ∙ braced_end _ _ _ _ _ _ _ c.if-take_body_end.ensures.reads
 
 pub returns-in_err-next-clause-reads : goal.returns-in_err-next-clause-reads
 returns-in_err-next-clause-reads g c =
     let e = one_more (λ n. prepended c.loop-turn.trees c.loop-turn.height (stmts_of c.args.self.now.depth c.args.beside n c.loop-turn.tokens)) _ c.loop-turn._turn c.loop-turn-test.true c.loop-turn.invariant.reads in
     let none : c.in_err-next.field-0.0 ≢ fault.NoMemory → prepended c.args.first.tree c.args.first.height (stmts_of c.args.self.now.depth c.args.beside c.args.turns c.args.tokens.now) ≡ None =
-    λ other. e ∙ braced_fail _ _ _ _ _ _ _ c.if-body_ends.ensures.reads (c.in_err-next.ensures.reads other) in
+    λ other. e ∙ braced_fail _ _ _ _ _ _ _ c.if-take_body_end.ensures.reads (c.in_err-next.ensures.reads other) in
     let same : IsErrAnd c.from_residual.result (λ f. c.in_err-next.field-0.0 ≡ f) = search rules in
     err_gives _ _ _ _ same none
 
@@ -27,15 +27,15 @@ loop-turn-preserved g c =
     let grown = c.in_ok-push.ensures in
     record {
       low = omega (arith, c.max-height.ensures, c.in_ok-next.ensures.low, c.loop-turn.invariant.low);
-      reads = e ∙ rw (grown.ok, c.max-height.ensures) (braced_go _ _ _ _ _ _ _ _ c.if-body_ends.ensures.reads c.in_ok-next.ensures.reads);
+      reads = e ∙ rw (grown.ok, c.max-height.ensures) (braced_go _ _ _ _ _ _ _ _ c.if-take_body_end.ensures.reads c.in_ok-next.ensures.reads);
     }
 
-pub returns-then-body_ends-2-clause-reads : goal.returns-then-body_ends-2-clause-reads
-returns-then-body_ends-2-clause-reads g c =
+pub returns-then-take_body_end-2-clause-reads : goal.returns-then-take_body_end-2-clause-reads
+returns-then-take_body_end-2-clause-reads g c =
     let e = no_more (λ n. prepended c.loop-turn.trees c.loop-turn.height (stmts_of c.args.self.now.depth c.args.beside n c.loop-turn.tokens)) _ c.loop-turn._turn c.loop-turn-test.false c.loop-turn.invariant.reads in
-    e ∙ braced_end _ _ _ _ _ _ _ c.if-body_ends-2.ensures.reads
+    e ∙ braced_end _ _ _ _ _ _ _ c.if-take_body_end-2.ensures.reads
 
-pub returns-else-body_ends-2-clause-reads : goal.returns-else-body_ends-2-clause-reads
-returns-else-body_ends-2-clause-reads g c =
+pub returns-else-take_body_end-2-clause-reads : goal.returns-else-take_body_end-2-clause-reads
+returns-else-take_body_end-2-clause-reads g c =
     let e = no_more (λ n. prepended c.loop-turn.trees c.loop-turn.height (stmts_of c.args.self.now.depth c.args.beside n c.loop-turn.tokens)) _ c.loop-turn._turn c.loop-turn-test.false c.loop-turn.invariant.reads in
-    λ other. e ∙ braced_over _ _ _ _ _ _ c.if-body_ends-2.ensures.reads
+    λ other. e ∙ braced_over _ _ _ _ _ _ c.if-take_body_end-2.ensures.reads

@@ -1,8 +1,8 @@
-//! How operators are printed.
+//! How operators and the stars of declarators are printed.
 
-use c_tree::{AssignOp, BinaryOp, PostfixOp, PrefixOp};
+use c_tree::{AssignOp, BinaryOp, ExprKind, PointerWord, PostfixOp, PrefixOp};
 
-pub fn binary(op: BinaryOp) -> &'static str {
+fn binary(op: BinaryOp) -> &'static str {
     match op {
         BinaryOp::LogicalOr => "||",
         BinaryOp::LogicalAnd => "&&",
@@ -25,7 +25,7 @@ pub fn binary(op: BinaryOp) -> &'static str {
     }
 }
 
-pub fn assign(op: AssignOp) -> &'static str {
+fn assign(op: AssignOp) -> &'static str {
     match op {
         AssignOp::Plain => "=",
         AssignOp::Mul => "*=",
@@ -41,7 +41,7 @@ pub fn assign(op: AssignOp) -> &'static str {
     }
 }
 
-pub fn prefix(op: PrefixOp) -> &'static str {
+fn prefix(op: PrefixOp) -> &'static str {
     match op {
         PrefixOp::Increment => "++_",
         PrefixOp::Decrement => "--_",
@@ -54,9 +54,37 @@ pub fn prefix(op: PrefixOp) -> &'static str {
     }
 }
 
-pub fn postfix(op: PostfixOp) -> &'static str {
+fn postfix(op: PostfixOp) -> &'static str {
     match op {
         PostfixOp::Increment => "_++",
         PostfixOp::Decrement => "_--",
+    }
+}
+
+/// What an operator is called. A leaf has no label.
+pub fn label_of(kind: &ExprKind) -> &'static str {
+    match kind {
+        ExprKind::Comma(_) => ",",
+        ExprKind::Assign { op, .. } => assign(*op),
+        ExprKind::Cond { .. } => "?",
+        ExprKind::Binary { op, .. } => binary(*op),
+        ExprKind::Cast { .. } => "cast",
+        ExprKind::Prefix { op, .. } => prefix(*op),
+        ExprKind::Postfix { op, .. } => postfix(*op),
+        ExprKind::SizeofExpr(_) | ExprKind::SizeofType(_) => "sizeof",
+        ExprKind::Index { .. } => "[]",
+        ExprKind::Call { .. } => "call",
+        ExprKind::Member { arrow: true, .. } => "->",
+        ExprKind::Member { arrow: false, .. } => ".",
+        ExprKind::SizeCall { .. } => "size",
+        _ => "",
+    }
+}
+
+pub fn label_of_word(word: PointerWord) -> &'static str {
+    match word {
+        PointerWord::Star => "* ",
+        PointerWord::Const => "const ",
+        PointerWord::Restrict => "restrict ",
     }
 }

@@ -1,0 +1,243 @@
+//! Rows of expressions with the trees that C11 6.5 gives them: each level against the next, grouping, the ends of
+//! their spans, and how high they may be. A column is the number of a token.
+
+use crate::sources::{repeated, tokens_of};
+use c_tokens::Token;
+use c_tree::Expr;
+use fc_base::{NoMemory, Place, Text};
+use parse_expr::{ExprForm, parse_expression};
+use parse_tokens::{ParseFault, TypeNames};
+use std::alloc::Global;
+use std::process::Abort;
+use std::test::Fail;
+use tree_text::push_expr;
+
+/// The names of types in these rows. One that is there already may be added again.
+const TYPE_NAMES: &[&[u8]] = &[b"T", b"U", b"T"];
+
+fn type_names(alloc: Global) -> Result<TypeNames, NoMemory> {
+    let mut names = TypeNames::new(alloc);
+    for &name in TYPE_NAMES {
+        names.push(Text::from_bytes(alloc, name)?)?;
+    }
+    Ok(names)
+}
+
+/// Puts the first token into column 1, the second into column 2.
+fn number(tokens: &mut [Token]) {
+    let mut col = 0u32;
+    for token in tokens {
+        col = col.wrapping_add(1);
+        token.place = Place { line: 1, col };
+    }
+}
+
+/// The tree, and where the span's end is, but for the end of the tokens.
+fn push_found(
+    out: &mut String,
+    found: &Result<(Expr, usize), ParseFault>,
+    count: usize,
+) -> Result<(), NoMemory> {
+    match found {
+        Ok((tree, end)) => {
+            push_expr(out, tree, 20)?;
+            if *end < count {
+                write!(out, " to {end}")?;
+            }
+            Ok(())
+        }
+        Err(ParseFault::NoDerivation) => Ok(out.push_str("none")?),
+        Err(ParseFault::NoMemory) => Ok(out.push_str("no memory")?),
+    }
+}
+
+/// The expression that the tokens begin with behind so many of them.
+fn push_first(
+    out: &mut String,
+    alloc: Global,
+    tokens: &[Token],
+    at: usize,
+    form: ExprForm,
+) -> Result<(), NoMemory> {
+    let names = type_names(alloc)?;
+    let found = parse_expression(alloc, tokens, at.min(tokens.len()), form, &names);
+    push_found(out, &found, tokens.len())
+}
+
+fn shown(alloc: Global, text: &str, at: usize, form: ExprForm) -> Result<String, Fail> {
+    let mut tokens = tokens_of(alloc, text)?;
+    number(&mut tokens);
+    let mut out = String::new(alloc);
+    push_first(&mut out, alloc, &tokens, at, form)?;
+    Ok(out)
+}
+
+/// Asserts that this is the expression behind so many tokens.
+fn assert_first(
+    rt: &impl Abort,
+    alloc: Global,
+    text: &str,
+    at: usize,
+    form: ExprForm,
+    tree: &str,
+) -> Result<(), Fail> {
+    assert_eq!(rt; shown(alloc, text, at, form)?.as_str(), tree);
+    Ok(())
+}
+
+/// C11 6.5, and the GCC manual's "Object Size Checking"
+const TREES: &[(&str, &str)] = &[
+    // each level against the next
+    ("a * b + c", "(+@4 (*@2 a b) c)"),
+    ("a + b * c", "(+@2 a (*@4 b c))"),
+    ("a - b << c", "(<<@4 (-@2 a b) c)"),
+    ("a >> b < c", "(<@4 (>>@2 a b) c)"),
+    ("a <= b == c", "(==@4 (<=@2 a b) c)"),
+    ("a != b & c", "(&@4 (!=@2 a b) c)"),
+    ("a ^ b & c", "(^@2 a (&@4 b c))"),
+    ("a | b ^ c", "(|@2 a (^@4 b c))"),
+    ("a && b | c", "(&&@2 a (|@4 b c))"),
+    ("a || b && c", "(||@2 a (&&@4 b c))"),
+    ("a || b ? c : d", "(?@4 (||@2 a b) c d)"),
+    ("a = b ? c : d", "(=@2 a (?@4 b c d))"),
+    ("a , b += c", "(,@1 a (+=@4 b c))"),
+    ("a % b > c >= d", "(>=@6 (>@4 (%@2 a b) c) d)"),
+    // grouping
+    ("a - b - c", "(-@4 (-@2 a b) c)"),
+    ("a / b * c", "(*@4 (/@2 a b) c)"),
+    ("a = b = c", "(=@2 a (=@4 b c))"),
+    ("a ? b : c ? d : e", "(?@2 a b (?@6 c d e))"),
+    ("a ? b , c : d", "(?@2 a (,@3 b c) d)"),
+    ("a , b , c", "(,@1 a b c)"),
+    ("( a , b ) , c", "(,@1 (,@2 a b) c)"),
+    (
+        "a *= b /= c %= d -= e <<= f",
+        "(*=@2 a (/=@4 b (%=@6 c (-=@8 d (<<=@10 e f)))))",
+    ),
+    (
+        "a >>= b &= c ^= d |= e",
+        "(>>=@2 a (&=@4 b (^=@6 c (|=@8 d e))))",
+    ),
+    ("a + b = c", "none"),
+    ("a ? b : c = d", "none"),
+    ("- a = b", "(=@3 (-_@1 a) b)"),
+    // what begins and follows an operand
+    ("* p ++", "(*_@1 (_++@2 p))"),
+    ("- x [ 1 ]", "(-_@1 ([]@3 x 1))"),
+    ("! ~ & x", "(!_@1 (~_@2 (&_@3 x)))"),
+    ("++ -- + a", "(++_@1 (--_@2 (+_@3 a)))"),
+    ("a -- - b", "(-@3 (_--@1 a) b)"),
+    ("- ( T ) x", "(-_@1 (cast@2 (to@2 <T 3>) x))"),
+    ("++ ( T ) x", "none"),
+    (
+        "f ( a , b ) ( )",
+        "(call@1 (call@1 f (args@1 a b)) (args@1))",
+    ),
+    ("a . b -> T", "(->@5 (.@3 a b) T)"),
+    ("( a ) ++", "(_++@1 a)"),
+    ("( ( a ) [ b ] ) ++", "(_++@1 ([]@5 a b))"),
+    ("\"ab\" \"c\" [ 'd' ]", "([]@3 \"abc\" 100)"),
+    // brackets and types
+    ("sizeof ( T )", "(sizeof@1 <T 3>)"),
+    ("sizeof x", "(sizeof@1 x)"),
+    ("sizeof ( x ) + 1", "(+@5 (sizeof@1 x) 1)"),
+    ("sizeof ( T ) + 1", "(+@5 (sizeof@1 <T 3>) 1)"),
+    ("sizeof ( T ) * p", "(*@5 (sizeof@1 <T 3>) p)"),
+    ("sizeof ( T ) x", "none"),
+    ("( T ) ( x )", "(cast@1 (to@1 <T 2>) x)"),
+    (
+        "( T ) ( x ) ( y )",
+        "(cast@1 (to@1 <T 2>) (call@5 x (args@5 y)))",
+    ),
+    ("( x ) ( y )", "(call@2 x (args@2 y))"),
+    ("( T ) * p", "(cast@1 (to@1 <T 2>) (*_@4 p))"),
+    ("( x ) * p", "(*@4 x p)"),
+    ("( T ) x * y", "(*@5 (cast@1 (to@1 <T 2>) x) y)"),
+    (
+        "( U ) ( T ) x",
+        "(cast@1 (to@1 <U 2>) (cast@4 (to@4 <T 5>) x))",
+    ),
+    ("( T x )", "none"),
+    (
+        "( const unsigned long * const * [ 2 ] [ n ] ) 0",
+        "(cast@1 (to@1 <const basic basic * const * 2[2][n]>) 0)",
+    ),
+    ("( struct T ( * ) [ 3 ] ) 0", "(cast@1 (to@1 <T * 2[3]>) 0)"),
+    (
+        "( __attribute__ ( ( a ( 1 , [ 2 ] ) , const ) ) T ) x",
+        "(cast@1 (to@1 <a5;const; T 2>) x)",
+    ),
+    (
+        "__builtin_dynamic_object_size ( a , 1 ? 2 : 3 )",
+        "(size@1 a (?@6 1 2 3))",
+    ),
+    ("__builtin_dynamic_object_size ( a )", "none"),
+    ("a b", "none"),
+    ("a +", "none"),
+    ("T", "none"),
+];
+
+#[test]
+fn trees_of_expressions(rt: HostRuntime) -> Result<(), Fail> {
+    let alloc = rt.alloc();
+    for &(text, tree) in TREES {
+        assert_first(&rt, alloc, text, 0, ExprForm::Full, tree)?;
+    }
+    Ok(())
+}
+
+/// From a token on, in a form, the expression, and the token at which its span ends.
+const SPANS: &[(&str, usize, ExprForm, &str)] = &[
+    ("a , b ; c", 0, ExprForm::Full, "(,@1 a b) to 3"),
+    ("a , b ; c", 0, ExprForm::Assign, "a to 1"),
+    ("a = b , c", 0, ExprForm::Assign, "(=@2 a b) to 3"),
+    ("a = b , c", 0, ExprForm::Cond, "none"),
+    (
+        "f ( a , b ) , c",
+        0,
+        ExprForm::Cond,
+        "(call@1 f (args@1 a b)) to 6",
+    ),
+    (
+        "a ? b , c : d , e",
+        0,
+        ExprForm::Cond,
+        "(?@2 a (,@3 b c) d) to 7",
+    ),
+    ("a ? b : c : d", 0, ExprForm::Full, "(?@2 a b c) to 5"),
+    ("a ) b", 0, ExprForm::Full, "a to 1"),
+    ("a ] b", 0, ExprForm::Full, "a to 1"),
+    ("a { b", 0, ExprForm::Full, "a to 1"),
+    ("; a", 0, ExprForm::Full, "none"),
+    // from another token
+    ("a ; b + c ; d", 2, ExprForm::Full, "(+@4 b c) to 5"),
+    ("( a , b )", 1, ExprForm::Assign, "a to 2"),
+    ("a", 1, ExprForm::Full, "none"),
+];
+
+#[test]
+fn spans_of_expressions(rt: HostRuntime) -> Result<(), Fail> {
+    let alloc = rt.alloc();
+    for &(text, at, form, tree) in SPANS {
+        assert_first(&rt, alloc, text, at, form, tree)?;
+    }
+    Ok(())
+}
+
+/// The tree of a name with so many texts before it and behind it.
+fn shown_within(alloc: Global, before: &str, behind: &str, times: u32) -> Result<String, Fail> {
+    let open = repeated(alloc, "", before, times, "a")?;
+    let text = repeated(alloc, open.as_str(), behind, times, "")?;
+    shown(alloc, text.as_str(), 0, ExprForm::Full)
+}
+
+#[test]
+fn heights_of_expressions(rt: HostRuntime) -> Result<(), Fail> {
+    let alloc = rt.alloc();
+    // 400 terms group from the left: the root is the last of 399 signs, which is token 798
+    assert!(rt; shown_within(alloc, "", " + a", 399)?.starts_with("(+@798 (+@796 (+@794 "));
+    assert_eq!(rt; shown_within(alloc, "", " + a", 400)?.as_str(), "none");
+    // parentheses make no node
+    assert_eq!(rt; shown_within(alloc, "( ", " )", 1000)?.as_str(), "a");
+    Ok(())
+}

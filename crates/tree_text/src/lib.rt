@@ -1,0 +1,13 @@
+//! Trees of sources as short texts, for the rows of tests.
+#![tactic(auto)]
+
+mod declarations;
+mod expressions;
+mod files;
+mod labels;
+mod specifiers;
+mod statements;
+mod words;
+
+pub use expressions::push_expr;
+pub use files::push_file;
