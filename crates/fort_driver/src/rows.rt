@@ -131,27 +131,28 @@ fn forms_run_to_their_ends(rt: HostRuntime) -> Result<(), Fail> {
     Ok(())
 }
 
+const REFUSALS: &[(&[u8], Rule, u32, u32)] = &[
+    (b"", Rule::NotThisForm, 1, 1),
+    (b"int main(void) { return 0; }", Rule::NotThisForm, 1, 1),
+    (b"'\\400'", Rule::BadEscape, 1, 2),
+    (b"#error x\n\"a\n", Rule::OpenText, 2, 1),
+    (b"int x;\n@", Rule::BadByte, 2, 1),
+    (b"#define f(x) x x\nf(1, 2)", Rule::MacroArguments, 2, 1),
+    (b"int x;\n#if 1", Rule::OpenConditional, 2, 1),
+    (b"#define a 1\n#define a 2\n#error", Rule::Redefined, 2, 1),
+    (
+        b"int main(void) {\n  goto x;\n}",
+        Rule::LeftOutKeyword,
+        2,
+        3,
+    ),
+    (b"int x;\nint main(void) { return 0 }", Rule::Syntax, 2, 1),
+];
+
 #[test]
 fn refusals_keep_nothing(rt: HostRuntime) -> Result<(), Fail> {
     let alloc = rt.alloc();
-    let rows: [(&[u8], Rule, u32, u32); 10] = [
-        (b"", Rule::NotThisForm, 1, 1),
-        (b"int main(void) { return 0; }", Rule::NotThisForm, 1, 1),
-        (b"'\\400'", Rule::BadEscape, 1, 2),
-        (b"#error x\n\"a\n", Rule::OpenText, 2, 1),
-        (b"int x;\n@", Rule::BadByte, 2, 1),
-        (b"#define f(x) x x\nf(1, 2)", Rule::MacroArguments, 2, 1),
-        (b"int x;\n#if 1", Rule::OpenConditional, 2, 1),
-        (b"#define a 1\n#define a 2\n#error", Rule::Redefined, 2, 1),
-        (
-            b"int main(void) {\n  goto x;\n}",
-            Rule::LeftOutKeyword,
-            2,
-            3,
-        ),
-        (b"int x;\nint main(void) { return 0 }", Rule::Syntax, 2, 1),
-    ];
-    for (source, rule, line, col) in rows {
+    for &(source, rule, line, col) in REFUSALS {
         check_source(&rt, alloc, source, refused(rule, line, col), b"", false)?;
     }
     let long = vec![in alloc; b'@'; 1_048_577]?;

@@ -26,28 +26,30 @@ fn check_outcome(
     Ok(())
 }
 
+const OUTCOMES: &[(Outcome, u8, &str)] = &[
+    (Outcome::Done, 0, ""),
+    (Outcome::Ran(End::Exit(0)), 0, ""),
+    (Outcome::Ran(End::Exit(255)), 255, ""),
+    (Outcome::Ran(End::Abort), 134, ""),
+    (Outcome::Ran(End::Overflow), 134, ""),
+    (Outcome::Ran(End::Fpe), 136, ""),
+    (Outcome::Ran(End::StackFull), 139, ""),
+    (Outcome::Ran(End::BadAddress), 139, ""),
+    (Outcome::Ran(End::BadFormat), 139, ""),
+    (Outcome::Usage, 116, "fortc: usage\n"),
+    (Outcome::StoreFault, 117, "fortc: store fault\n"),
+    (Outcome::InputFault, 118, "fortc: input fault\n"),
+    (Outcome::OutFault, 119, "fortc: output fault\n"),
+    (Outcome::ErrFault, 120, "fortc: error output fault\n"),
+    (Outcome::TooLong, 121, "fortc: too long\n"),
+    (Outcome::OutOfSteps, 124, "fortc: out of steps\n"),
+    (Outcome::NoMemory, 125, "fortc: no memory\n"),
+];
+
 #[test]
 fn outcomes_have_a_status_and_a_line(rt: HostRuntime) -> Result<(), Fail> {
     let alloc = rt.alloc();
-    for (outcome, code, line) in [
-        (Outcome::Done, 0, ""),
-        (Outcome::Ran(End::Exit(0)), 0, ""),
-        (Outcome::Ran(End::Exit(255)), 255, ""),
-        (Outcome::Ran(End::Abort), 134, ""),
-        (Outcome::Ran(End::Overflow), 134, ""),
-        (Outcome::Ran(End::Fpe), 136, ""),
-        (Outcome::Ran(End::StackFull), 139, ""),
-        (Outcome::Ran(End::BadAddress), 139, ""),
-        (Outcome::Ran(End::BadFormat), 139, ""),
-        (Outcome::Usage, 116, "fortc: usage\n"),
-        (Outcome::StoreFault, 117, "fortc: store fault\n"),
-        (Outcome::InputFault, 118, "fortc: input fault\n"),
-        (Outcome::OutFault, 119, "fortc: output fault\n"),
-        (Outcome::ErrFault, 120, "fortc: error output fault\n"),
-        (Outcome::TooLong, 121, "fortc: too long\n"),
-        (Outcome::OutOfSteps, 124, "fortc: out of steps\n"),
-        (Outcome::NoMemory, 125, "fortc: no memory\n"),
-    ] {
+    for &(outcome, code, line) in OUTCOMES {
         check_outcome(&rt, alloc, outcome, code, line)?;
     }
     let refusal = Refusal {
