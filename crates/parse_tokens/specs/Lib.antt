@@ -1,4 +1,5 @@
 pub mod Cursor
+pub mod Endings
 pub mod Gives
 pub mod Names
 pub mod Words

@@ -2,6 +2,7 @@
 #![tactic(auto)]
 
 mod copies;
+mod endings;
 mod faults;
 mod terminals;
 mod tokens;
@@ -9,6 +10,9 @@ mod type_names;
 mod words;
 
 pub use copies::{copy_text, text_of};
+pub use endings::{
+    before_colon, before_comma, before_right_bracket, before_right_paren, before_semicolon,
+};
 pub use faults::{ParseFault, Tall};
 pub use terminals::{is_tag, is_word};
 pub use tokens::Tokens;
