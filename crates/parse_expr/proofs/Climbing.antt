@@ -18,6 +18,18 @@ within a b h = grind (arith, nat_tests)
 not_within : (a b : ℕ) → b < a → nat_le a b ≡ false
 not_within a b h = grind (arith, nat_tests)
 
+pub is_below : (a b : ℕ) → nat_lt a b ≡ true → a < b
+is_below a b h = grind (arith, nat_tests)
+
+pub is_not_below : (a b : ℕ) → nat_lt a b ≡ false → b ≤ a
+is_not_below a b h = grind (arith, nat_tests)
+
+pub is_within : (a b : ℕ) → nat_le a b ≡ true → a ≤ b
+is_within a b h = grind (arith, nat_tests)
+
+pub is_not_within : (a b : ℕ) → nat_le a b ≡ false → b < a
+is_not_within a b h = grind (arith, nat_tests)
+
 module _ (n : ℕ) (sub : ℕ → List Lexeme → Option (Read Expr)) where
   module _ (to : ℕ) (start : Place) (l : Left) where
     pub climb_stops : (m : ℕ) → to < binds l.read.rest → climb n sub m to start l ≡ Some l.read

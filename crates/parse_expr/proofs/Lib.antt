@@ -2,6 +2,7 @@ pub mod Bounds
 pub mod Climbing
 pub mod Cursor
 pub mod Groups
+pub mod Keeping
 pub mod Knots
 pub mod Lists
 pub mod Parts

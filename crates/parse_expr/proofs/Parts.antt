@@ -1,5 +1,5 @@
 -- Productions, and the parts in which they are read.
-use Rattle.std.specs.Prelude.{if◌then◌else◌}
+use Rattle.std.specs.Prelude.{if◌then◌else◌, nat_le}
 use Rattle.std.proofs.Common.{◌≡◌, ℕ, suc, ◌+◌, max, List, [], ◌∷◌, length, Result, Ok, Err, Option, Some, None, Bool, true, false, ◌<◌, ◌≤◌, refl, sym, ap, subst, ◌∙◌, arith}
 use Rattle.fc_base.specs.declared.refusals.Place.{Place}
 use Rattle.c_tokens.specs.declared.puncts.Punct.TheVariants as p
@@ -23,6 +23,7 @@ use Rattle.c_grammar.proofs.SoundParts.{pointer_words_sound}
 use Rattle.parse_tokens.specs.declared.faults.ParseFault.{ParseFault}
 use Rattle.parse_tokens.specs.declared.faults.Tall.{Tall}
 use Rattle.parse_tokens.specs.Gives.{Low}
+use Rattle.parse_tokens.proofs.Binds.{bind_bind, bind_each}
 use Rattle.parse_expr.specs.Abstracts as abstracts
 use Rattle.parse_expr.specs.Openings as openings
 use Rattle.parse_expr.specs.Tails as tails
@@ -30,19 +31,10 @@ use Rattle.parse_expr.specs.Tails.{tall, with_tail, tail_of, go_on}
 use Rattle.parse_expr.specs.declared.tails.Tail.{Tail}
 use Rattle.parse_expr.specs.declared.tails.Tail.TheVariants as tail
 
--- one reader after another
-bind_bind : {A B C : Type 0} (o : Option A) (f : A → Option B) (g : B → Option C) → ((o >>= f) >>= g) ≡ (o >>= λ x. f x >>= g)
-bind_bind None f g = refl
-bind_bind (Some x) f g = refl
-
-bind_same : {A B : Type 0} (o : Option A) (f g : A → Option B) → ((x : A) → f x ≡ g x) → (o >>= f) ≡ (o >>= g)
-bind_same None f g h = refl
-bind_same (Some x) f g h = h x
-
 -- a tree, and a token behind it
 token_behind : {A B : Type 0} (o : Option (Read A)) (after : List Lexeme → Option (List Lexeme)) (g : Read A → Option B) →
     ((o >>= λ x. after x.rest >>= λ u. Some (found x.tree x.height u)) >>= g) ≡ (o >>= λ x. after x.rest >>= λ u. g (found x.tree x.height u))
-token_behind o after g = bind_bind o _ g ∙ bind_same o _ _ (λ x. bind_bind (after x.rest) _ g)
+token_behind o after g = bind_bind o _ g ∙ bind_each o _ _ (λ x. bind_bind (after x.rest) _ g)
 
 module _ (n : ℕ) (sub : ℕ → List Lexeme → Option (Read Expr)) where
   -- ---- What an expression begins with
@@ -63,9 +55,9 @@ module _ (n : ℕ) (sub : ℕ → List Lexeme → Option (Read Expr)) where
   pub size_called_parts : (place : Place) (s : List Lexeme) → spec.size_called n sub place s ≡ openings.size_called n sub place s
   unfolding spec.size_called
   size_called_parts place s =
-      bind_same (spec.after_left_paren s) _ _ (λ t.
-      bind_same (sub 15 t) _ _ (λ x.
-      bind_same (spec.after_comma x.rest) _ _ (λ u.
+      bind_each (spec.after_left_paren s) _ _ (λ t.
+      bind_each (sub 15 t) _ _ (λ x.
+      bind_each (spec.after_comma x.rest) _ _ (λ u.
       sym (token_behind (sub 14 u) spec.after_right_paren _))
       ∙ sym (bind_bind (spec.after_comma x.rest) _ _))
       ∙ sym (bind_bind (sub 15 t) _ _))
@@ -118,7 +110,7 @@ module _ (n : ℕ) (sub : ℕ → List Lexeme → Option (Read Expr)) where
     by_parts (role.Member arrow) (at c q ∷ t) = chosen (is_tag c) (tail.Member arrow (text_of q) q.place, t)
     by_parts (role.Step b) t = refl
     by_parts role.Choice t =
-        sym (bind_bind (tails.colon_ended n sub t) _ behind ∙ bind_same (tails.colon_ended n sub t) _ _ (λ y. bind_bind (sub 14 y.rest) _ behind)
+        sym (bind_bind (tails.colon_ended n sub t) _ behind ∙ bind_each (tails.colon_ended n sub t) _ _ (λ y. bind_bind (sub 14 y.rest) _ behind)
         ∙ token_behind (sub 16 t) spec.after_colon _)
     by_parts (role.Assign b) t = sym (bind_bind (sub 15 t) _ behind)
     by_parts (role.Join b l) t = sym (bind_bind (sub l t) _ behind)
@@ -126,13 +118,22 @@ module _ (n : ℕ) (sub : ℕ → List Lexeme → Option (Read Expr)) where
     by_parts role.Str t = refl
     by_parts role.End t = refl
 
+    if_behind : (b : Bool) (o : Option (Tail × List Lexeme)) → (if b then (o >>= behind) else None) ≡ ((if b then o else None) >>= behind)
+    if_behind true o = refl
+    if_behind false o = refl
+
+    none_behind : (b : Bool) → None ≡ ((if b then None else None) >>= behind)
+    none_behind true = refl
+    none_behind false = refl
+
     from_parts : (l : ℕ) (c : Terminal) (t : List Lexeme) → spec.next_from n sub start (left l x h r) c place t ≡ go_on n sub start l x h (spec.role_of c) place t
     unfolding spec.next_from
-    from_parts l c t = rw (by_parts (spec.role_of c) t) refl
+    from_parts l c t = rw (by_parts (spec.role_of c) t) (if_behind (nat_le l (spec.role_takes (spec.role_of c))) (tail_of n sub (spec.role_of c) t))
 
-  pub next_parts : (start : Place) (l : ℕ) (x : Expr) (h : ℕ) (c : Terminal) (o : Token) (s t : List Lexeme) → s ≡ at c o ∷ t →
-      spec.next_in n sub start (left l x h s) s ≡ go_on n sub start l x h (spec.role_of c) o.place t
-  next_parts start l x h c o s t e = ap (λ r. spec.next_in n sub start (left l x h r) r) e ∙ from_parts start x h (at c o ∷ t) o.place l c t
+  pub next_parts : (start : Place) (l : ℕ) (x : Expr) (h : ℕ) (s : List Lexeme) →
+      spec.next_in n sub start (left l x h s) s ≡ go_on n sub start l x h (tails.next_role s) (place_of s) (tails.behind_next s)
+  next_parts start l x h [] = none_behind start x h [] (place_of []) (nat_le l 0)
+  next_parts start l x h (at c o ∷ t) = from_parts start x h (at c o ∷ t) o.place l c t
 
 -- ---- Abstract declarators
 
@@ -152,7 +153,7 @@ module _ (sub : ℕ → List Lexeme → Option (Read Expr)) (limit : ℕ) (place
   unfolding spec.group_behind
   group_of_parts start star ([], s) = refl
   group_of_parts start star (w ∷ ws, s) =
-      sym (bind_bind (spec.after_right_paren s) _ _ ∙ bind_same (spec.after_right_paren s) _ _ (λ t. bind_bind (spec.after_left_bracket t) _ _))
+      sym (bind_bind (spec.after_right_paren s) _ _ ∙ bind_each (spec.after_right_paren s) _ _ (λ t. bind_bind (spec.after_left_bracket t) _ _))
 
   pub group_parts : (o : Token) (s t : List Lexeme) → s ≡ at (k.Punct p.LeftParen) o ∷ t → spec.abstract_direct sub limit place s ≡ abstracts.group_at sub place o.place t
   group_parts o s t e = ap (spec.abstract_direct sub limit place) e ∙ group_of_parts o.place (place_of t) (spec.stars t)

@@ -9,7 +9,7 @@ use Rattle.c_grammar.specs.declared.terminals.Role.TheVariants as role
 use Rattle.c_grammar.specs.declared.terminals.Terminal.TheVariants as k
 use Rattle.c_grammar.specs.Terminals.{Lexeme, at, text_of, is_tag}
 use Rattle.c_grammar.specs.Expressions.{expr, conditional, assignment, expression as full}
-use Rattle.c_grammar.specs.Reading.{◌>>=◌, Read, Left, found, left, after_right_paren, after_right_bracket, after_colon, role_takes, exprs}
+use Rattle.c_grammar.specs.Reading.{◌>>=◌, Read, Left, found, left, after_right_paren, after_right_bracket, after_colon, role_of, role_takes, exprs}
 use Rattle.parse_tokens.specs.declared.faults.Tall.{Tall}
 use Rattle.parse_expr.specs.declared.tails.Tail.{Tail}
 use Rattle.parse_expr.specs.declared.tails.Tail.TheVariants as tail
@@ -44,6 +44,15 @@ abbrev pub member_tail : Bool → List Lexeme → Option (Tail × List Lexeme)
 member_tail arrow [] = None
 member_tail arrow (at c q ∷ t) = if is_tag c then Some (tail.Member arrow (text_of q) q.place, t) else None
 
+-- what the next token does to an expression before it, and the tokens behind it
+abbrev pub next_role : List Lexeme → Role
+next_role [] = role.End
+next_role (at c o ∷ t) = role_of c
+
+abbrev pub behind_next : List Lexeme → List Lexeme
+behind_next [] = []
+behind_next (c ∷ t) = t
+
 -- with a reader of expressions that are at most n high
 module _ (n : ℕ) (sub : ℕ → List Lexeme → Option (Read Expr)) where
   -- an expression and its bracket
@@ -77,6 +86,10 @@ module _ (n : ℕ) (sub : ℕ → List Lexeme → Option (Read Expr)) where
   tail_of role.Str t = None
   tail_of role.End t = None
 
+  -- the same, if an expression of the level may go on so
+  abbrev pub tail_behind : ℕ → Role → List Lexeme → Option (Tail × List Lexeme)
+  tail_behind l r t = if nat_le l (role_takes r) then tail_of r t else None
+
   -- the expression with what follows a token of this role
   abbrev pub go_on : Place → ℕ → Expr → ℕ → Role → Place → List Lexeme → Option Left
-  go_on start l x h r place t = if nat_le l (role_takes r) then (tail_of r t >>= λ y. Some (with_tail start x h y.0 place y.1)) else None
+  go_on start l x h r place t = tail_behind l r t >>= λ y. Some (with_tail start x h y.0 place y.1)

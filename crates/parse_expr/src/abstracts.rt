@@ -9,13 +9,14 @@ ghost use Rattle.parse_expr.specs.Abstracts.{group_bound, group_at, pointer_at};
 ghost use Rattle.parse_expr.specs.Nests.{Nests};
 
 use crate::grammar::Grammar;
+use crate::held::{both, kept};
 use crate::lefts::CONDITIONAL;
 use c_grammar::Terminal;
 use c_tokens::Punct;
 use c_tree::{Declarator, Expr, PointerWord, TypeName};
 use fc_base::Place;
 use parse_parts::{Context, plain_specs, pointer_words, stars};
-use parse_tokens::{ParseFault, Tall, Tokens};
+use parse_tokens::{ParseFault, Tall, Tokens, before_right_bracket};
 use sqlite_items::{Boxed, Items};
 use std::alloc::{AllocError, Global};
 
@@ -59,7 +60,7 @@ impl<F: Fn(Global, &mut Tokens<'_>, usize, u8) -> Result<Tall<Expr>, ParseFault>
         ensures low { IfOk result (λ x. x.height ≤ self.now.depth) }
     {
         let bound = self.sub(tokens, CONDITIONAL)?;
-        tokens.expect_right_bracket()?;
+        let bound = before_right_bracket(tokens, bound)?;
         Ok(Tall {
             tree: Some(Boxed::new(self.alloc, bound.tree)?),
             height: bound.height,
@@ -214,18 +215,17 @@ impl<F: Fn(Global, &mut Tokens<'_>, usize, u8) -> Result<Tall<Expr>, ParseFault>
     {
         let place = tokens.place();
         let specs = plain_specs(self.alloc, tokens, Context::Inner)?;
-        let declarator = self.abstract_declarator(tokens, place)?;
+        let declarator = self.abstract_declarator(tokens, place);
+        let (specs, declarator) = both(specs, declarator)?;
         let height = specs.height.max(declarator.height) + 1;
-        if height > self.depth {
-            return Err(ParseFault::NoDerivation);
-        }
-        Ok(Tall {
+        let name = Tall {
             tree: TypeName {
                 specs: specs.tree.specs,
                 declarator: declarator.tree,
                 place,
             },
             height,
-        })
+        };
+        kept(name, height <= self.depth)
     }
 }

@@ -1,14 +1,15 @@
 //! How expressions go on (C11 6.5.2 and 6.5.5 to 6.5.17).
 
 ghost use Rattle.std.specs.Prelude.{◌≡◌, ◌≤◌, ◌<◌, ◌+◌, List, Some, length, IfOk};
-ghost use Rattle.c_grammar.specs.Terminals.{Lexeme};
+ghost use Rattle.c_grammar.specs.Terminals.{Lexeme, place_of};
 ghost use Rattle.c_grammar.specs.Reading as spec;
 ghost use Rattle.parse_tokens.specs.Gives.{Gives, GivesPart};
 ghost use Rattle.parse_expr.specs.Lefts.{GivesLeft, as_left};
 ghost use Rattle.parse_expr.specs.Nests.{Nests};
-ghost use Rattle.parse_expr.specs.Tails.{FitsTail, with_tail, bracketed, arguments_some, arguments, colon_ended, member_tail, choice_tail, tail_of, go_on};
+ghost use Rattle.parse_expr.specs.Tails.{FitsTail, with_tail, bracketed, arguments_some, arguments, colon_ended, member_tail, choice_tail, tail_of, tail_behind, next_role, behind_next, go_on};
 
 use crate::grammar::Grammar;
+use crate::held::{both, kept};
 use crate::lefts::{ASSIGNMENT, CONDITIONAL, EXPRESSION, Left};
 use crate::roles::{binds, role_of, role_takes};
 use crate::tails::{Tail, assign, call, choice, index, join, list, member, step};
@@ -16,7 +17,10 @@ use c_grammar::{Role, Terminal};
 use c_tokens::Punct;
 use c_tree::Expr;
 use fc_base::Place;
-use parse_tokens::{ParseFault, Tall, Tokens, copy_text, is_tag};
+use parse_tokens::{
+    ParseFault, Tall, Tokens, before_colon, before_right_bracket, before_right_paren, copy_text,
+    is_tag,
+};
 use sqlite_items::Items;
 use std::alloc::{AllocError, Global};
 
@@ -59,6 +63,20 @@ fn member_tail(alloc: Global, tokens: &mut Tokens<'_>, arrow: bool) -> Result<Ta
     }
 }
 
+/// What the next token does to an expression before it, and the token's place. The expression ends where none is left.
+fn next_role(tokens: &mut Tokens<'_>) -> (Role, Place)
+    ensures role { result.0 ≡ next_role tokens.old }
+    ensures low { spec.role_binds result.0 ≤ 17 }
+    ensures place { result.1 ≡ place_of tokens.old }
+    ensures rest { tokens.new ≡ behind_next tokens.old }
+{
+    let place = tokens.place();
+    match tokens.next() {
+        Some((terminal, _)) => (role_of(terminal), place),
+        None => (Role::End, place),
+    }
+}
+
 impl<F: Fn(Global, &mut Tokens<'_>, usize, u8) -> Result<Tall<Expr>, ParseFault>> Grammar<F> {
     /// One expression of the level of assignments or more, with commas between them, by so many turns at most.
     fn exprs(&self, tokens: &mut Tokens<'_>, turns: usize) -> Result<Tall<Items<Expr>>, ParseFault>
@@ -89,8 +107,7 @@ impl<F: Fn(Global, &mut Tokens<'_>, usize, u8) -> Result<Tall<Expr>, ParseFault>
     {
         let turns = tokens.left();
         let args = self.exprs(tokens, turns)?;
-        tokens.expect_right_paren()?;
-        Ok(args)
+        before_right_paren(tokens, args)
     }
 
     /// `b, c)`
@@ -118,8 +135,7 @@ impl<F: Fn(Global, &mut Tokens<'_>, usize, u8) -> Result<Tall<Expr>, ParseFault>
         ensures low { IfOk result (λ x. x.height ≤ self.now.depth) }
     {
         let index = self.sub(tokens, EXPRESSION)?;
-        tokens.expect_right_bracket()?;
-        Ok(index)
+        before_right_bracket(tokens, index)
     }
 
     /// `b :`
@@ -129,8 +145,7 @@ impl<F: Fn(Global, &mut Tokens<'_>, usize, u8) -> Result<Tall<Expr>, ParseFault>
         ensures low { IfOk result (λ x. x.height ≤ self.now.depth) }
     {
         let yes = self.sub(tokens, EXPRESSION)?;
-        tokens.expect_colon()?;
-        Ok(yes)
+        before_colon(tokens, yes)
     }
 
     /// `b : c`
@@ -140,7 +155,8 @@ impl<F: Fn(Global, &mut Tokens<'_>, usize, u8) -> Result<Tall<Expr>, ParseFault>
         ensures low { IfOk result FitsTail }
     {
         let yes = self.colon_ended(tokens)?;
-        let no = self.sub(tokens, CONDITIONAL)?;
+        let no = self.sub(tokens, CONDITIONAL);
+        let (yes, no) = both(yes, no)?;
         Ok(Tail::Choice { yes, no })
     }
 
@@ -167,6 +183,25 @@ impl<F: Fn(Global, &mut Tokens<'_>, usize, u8) -> Result<Tall<Expr>, ParseFault>
         }
     }
 
+    /// The same, if an expression of the level may go on so.
+    fn tail_behind(
+        &self,
+        tokens: &mut Tokens<'_>,
+        level: u8,
+        role: Role,
+    ) -> Result<Tail, ParseFault>
+        requires nests { Nests self.now.depth (F.pre self.now.expr) (F.post self.now.expr) }
+        requires role { spec.role_binds role ≤ 17 }
+        ensures reads { GivesPart (tail_behind self.now.depth (spec.expression self.now.depth) level role tokens.old) result tokens.new }
+        ensures low { IfOk result FitsTail }
+    {
+        if level <= role_takes(role) {
+            self.tail(tokens, role)
+        } else {
+            Err(ParseFault::NoDerivation)
+        }
+    }
+
     /// The expression with what stands behind a token of this role and place.
     fn go_on(
         &self,
@@ -181,10 +216,8 @@ impl<F: Fn(Global, &mut Tokens<'_>, usize, u8) -> Result<Tall<Expr>, ParseFault>
         requires role { spec.role_binds role ≤ 17 }
         ensures { GivesLeft (go_on self.now.depth (spec.expression self.now.depth) start left.level left.tree left.height role place tokens.old) result tokens.new }
     {
-        if role_takes(role) < left.level {
-            return Err(ParseFault::NoDerivation);
-        }
-        let tail = self.tail(tokens, role)?;
+        let tail = self.tail_behind(tokens, left.level, role);
+        let (left, tail) = both(left, tail)?;
         Ok(with_tail(self.alloc, left, tail, start, place)?)
     }
 
@@ -194,12 +227,8 @@ impl<F: Fn(Global, &mut Tokens<'_>, usize, u8) -> Result<Tall<Expr>, ParseFault>
         requires low { left.height ≤ self.now.depth + 1 }
         ensures { GivesLeft (spec.next_in self.now.depth (spec.expression self.now.depth) start (as_left left tokens.old) tokens.old) result tokens.new }
     {
-        match tokens.next() {
-            Some((terminal, token)) => {
-                self.go_on(tokens, left, start, role_of(terminal), token.place)
-            }
-            None => Err(ParseFault::NoDerivation),
-        }
+        let (role, place) = next_role(tokens);
+        self.go_on(tokens, left, start, role, place)
     }
 
     /// An expression of the level or a tighter one, which has begun so, by so many turns at most.
@@ -221,16 +250,11 @@ impl<F: Fn(Global, &mut Tokens<'_>, usize, u8) -> Result<Tall<Expr>, ParseFault>
             if level < binds(tokens) {
                 return Ok(left.finish());
             }
-            left = self.next(tokens, left, start)?;
-            if left.height > self.depth + 1 {
-                return Err(ParseFault::NoDerivation);
-            }
+            let next = self.next(tokens, left, start)?;
+            let is_low = next.height <= self.depth + 1;
+            left = kept(next, is_low)?;
         }
-        if level < binds(tokens) {
-            Ok(left.finish())
-        } else {
-            Err(ParseFault::NoDerivation)
-        }
+        kept(left.finish(), level < binds(tokens))
     }
 
     /// An expression of the level or a tighter one, which has begun so; none where it has begun with a looser one. Each
@@ -248,10 +272,8 @@ impl<F: Fn(Global, &mut Tokens<'_>, usize, u8) -> Result<Tall<Expr>, ParseFault>
         ensures reads { Gives (spec.begun self.now.depth (spec.expression self.now.depth) level start (Some (as_left first tokens.old))) result tokens.new }
         ensures low { IfOk result (λ x. x.height ≤ self.now.depth + 1) }
     {
-        if first.level <= level {
-            self.climb(tokens, level, start, first, self.depth + 1)
-        } else {
-            Err(ParseFault::NoDerivation)
-        }
+        let is_tight = first.level <= level;
+        let first = kept(first, is_tight)?;
+        self.climb(tokens, level, start, first, self.depth + 1)
     }
 }

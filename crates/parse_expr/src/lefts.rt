@@ -79,11 +79,29 @@ impl Left {
     }
 }
 
-/// The two operands of a node.
-pub fn boxed_pair(alloc: Global, a: Expr, b: Expr) -> Result<(Boxed<Expr>, Boxed<Expr>), AllocError>
+/// Two parts of a node.
+pub fn boxed_pair<A: Drop, B: Drop>(
+    alloc: Global,
+    a: A,
+    b: B,
+) -> Result<(Boxed<A>, Boxed<B>), AllocError>
     ensures { IfOk result (λ pair. pair ≡ (a, b)) }
 {
     let a = Boxed::new(alloc, a)?;
     let b = Boxed::new(alloc, b)?;
     Ok((a, b))
+}
+
+/// Three parts of a node.
+pub fn boxed_three<A: Drop, B: Drop, C: Drop>(
+    alloc: Global,
+    a: A,
+    b: B,
+    c: C,
+) -> Result<(Boxed<A>, Boxed<B>, Boxed<C>), AllocError>
+    ensures { IfOk result (λ parts. parts ≡ (a, b, c)) }
+{
+    let (a, b) = boxed_pair(alloc, a, b)?;
+    let c = Boxed::new(alloc, c)?;
+    Ok((a, b, c))
 }

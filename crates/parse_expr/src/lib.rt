@@ -4,6 +4,7 @@
 mod abstracts;
 mod expressions;
 mod grammar;
+mod held;
 mod infixes;
 mod lefts;
 mod operands;

@@ -14,6 +14,7 @@ ghost use Rattle.parse_expr.specs.Nests.{Nests};
 ghost use Rattle.parse_expr.specs.Openings.{opens_group, closed_type, converted, sized_type, sized, comma_ended, paren_ended, size_called};
 
 use crate::grammar::Grammar;
+use crate::held::both;
 use crate::lefts::{
     ASSIGNMENT, CAST, CONDITIONAL, EXPRESSION, Left, POSTFIX, PRIMARY, UNARY, boxed_pair,
 };
@@ -22,7 +23,7 @@ use c_tokens::{Punct, Token, TokenKind};
 use c_tree::{Expr, ExprKind, PrefixOp, TypeName};
 use fc_base::Place;
 use parse_parts::strings;
-use parse_tokens::{ParseFault, Tall, Tokens, copy_text};
+use parse_tokens::{ParseFault, Tall, Tokens, before_comma, before_right_paren, copy_text};
 use sqlite_items::Boxed;
 use std::alloc::{AllocError, Global};
 
@@ -122,8 +123,7 @@ impl<F: Fn(Global, &mut Tokens<'_>, usize, u8) -> Result<Tall<Expr>, ParseFault>
         ensures low { IfOk result (λ x. x.height ≤ self.now.depth) }
     {
         let name = self.type_name(tokens)?;
-        tokens.expect_right_paren()?;
-        Ok(name)
+        before_right_paren(tokens, name)
     }
 
     /// `(T) a` behind its first bracket (C11 6.5.4).
@@ -133,7 +133,8 @@ impl<F: Fn(Global, &mut Tokens<'_>, usize, u8) -> Result<Tall<Expr>, ParseFault>
         ensures low { IfOk result (λ x. x.height ≤ self.now.depth + 1) }
     {
         let to = self.closed_type(tokens)?;
-        let of = self.sub(tokens, CAST)?;
+        let of = self.sub(tokens, CAST);
+        let (to, of) = both(to, of)?;
         Ok(cast(self.alloc, to, of, place)?)
     }
 
@@ -190,8 +191,7 @@ impl<F: Fn(Global, &mut Tokens<'_>, usize, u8) -> Result<Tall<Expr>, ParseFault>
     {
         tokens.expect_left_paren()?;
         let pointer = self.sub(tokens, ASSIGNMENT)?;
-        tokens.expect_comma()?;
-        Ok(pointer)
+        before_comma(tokens, pointer)
     }
 
     /// `b)`
@@ -201,8 +201,7 @@ impl<F: Fn(Global, &mut Tokens<'_>, usize, u8) -> Result<Tall<Expr>, ParseFault>
         ensures low { IfOk result (λ x. x.height ≤ self.now.depth) }
     {
         let mode = self.sub(tokens, CONDITIONAL)?;
-        tokens.expect_right_paren()?;
-        Ok(mode)
+        before_right_paren(tokens, mode)
     }
 
     /// `__builtin_dynamic_object_size (a, b)` behind the word (GCC manual, "Object Size Checking").
@@ -212,7 +211,8 @@ impl<F: Fn(Global, &mut Tokens<'_>, usize, u8) -> Result<Tall<Expr>, ParseFault>
         ensures low { IfOk result (λ x. x.height ≤ self.now.depth + 1) }
     {
         let pointer = self.comma_ended(tokens)?;
-        let mode = self.paren_ended(tokens)?;
+        let mode = self.paren_ended(tokens);
+        let (pointer, mode) = both(pointer, mode)?;
         Ok(size_call(self.alloc, pointer, mode, place)?)
     }
 
@@ -281,7 +281,7 @@ impl<F: Fn(Global, &mut Tokens<'_>, usize, u8) -> Result<Tall<Expr>, ParseFault>
         ensures low { IfOk result (λ x. x.height ≤ self.now.depth + 1) }
     {
         let inner = self.begun(tokens, EXPRESSION, start, first)?;
-        tokens.expect_right_paren()?;
+        let inner = before_right_paren(tokens, inner)?;
         Ok(Left {
             level: PRIMARY,
             tree: inner.tree,

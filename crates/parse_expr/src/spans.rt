@@ -7,6 +7,7 @@ ghost use Rattle.parse_tokens.specs.declared.faults.ParseFault.TheVariants as fa
 ghost use Rattle.parse_expr.specs.Forms.{level_of, ends_at_commas};
 
 use crate::expressions::expression;
+use crate::held::kept;
 use crate::lefts::{ASSIGNMENT, CONDITIONAL, EXPRESSION};
 use c_tokens::{Punct, Token, TokenKind};
 use c_tree::{Expr, HEIGHT_LIMIT};
@@ -123,11 +124,8 @@ fn first_expression(
     let len = span_len(tokens, form.ends_at_commas());
     let mut rest = Tokens::new(&tokens[..len], names);
     let found = expression(alloc, &mut rest, HEIGHT_LIMIT, form.level())?;
-    if rest.left() == 0 {
-        Ok((found.tree, len))
-    } else {
-        Err(ParseFault::NoDerivation)
-    }
+    let tree = kept(found.tree, rest.left() == 0)?;
+    Ok((tree, len))
 }
 
 /// The expression that the tokens from `at` on are, up to where it ends, and where that is.

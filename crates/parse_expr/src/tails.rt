@@ -4,7 +4,7 @@ ghost use Rattle.std.specs.Prelude.{◌≡◌, ◌≤◌, ◌<◌, ◌∷◌, su
 ghost use Rattle.c_tree.specs.declared.nodes.ExprKind.TheVariants as e;
 ghost use Rattle.c_grammar.specs.Expressions.{expr};
 
-use crate::lefts::{ASSIGNMENT, CONDITIONAL, EXPRESSION, Left, POSTFIX, boxed_pair};
+use crate::lefts::{ASSIGNMENT, CONDITIONAL, EXPRESSION, Left, POSTFIX, boxed_pair, boxed_three};
 use c_tree::{AssignOp, BinaryOp, Expr, ExprKind, PostfixOp};
 use fc_base::{Place, Text};
 use parse_tokens::Tall;
@@ -108,8 +108,7 @@ pub fn choice(
     ensures { IfOk result (λ x. x ≡ record { level = 14; tree = expr (e.Cond left.tree yes.tree no.tree) place; height = suc (max left.height (max yes.height no.height)) }) }
 {
     let height = left.height.max(yes.height.max(no.height)) + 1;
-    let test = Boxed::new(alloc, left.tree)?;
-    let (yes, no) = boxed_pair(alloc, yes.tree, no.tree)?;
+    let (test, yes, no) = boxed_three(alloc, left.tree, yes.tree, no.tree)?;
     Ok(Left::new(CONDITIONAL, ExprKind::Cond { test, yes, no }, place, height))
 }
 

@@ -1,4 +1,5 @@
-use Rattle.std.proofs.Common.{◌≡◌, ◌∙◌, sym, arith}
+use Rattle.std.proofs.Common.{◌≡◌, ◌<◌, ◌∙◌, ℕ, true, false, nat_eq, sym, arith}
+use Rattle.std.proofs.lemmas.Bool.Decides.{nat_tests}
 use Rattle.std.proofs.lemmas.Result.{err_from_is_err_and}
 use Rattle.c_tree.specs.declared.nodes.Expr.{Expr}
 use Rattle.c_grammar.specs.Spans.{span, Spells}
@@ -6,6 +7,12 @@ use Rattle.parse_tokens.specs.declared.faults.ParseFault.TheVariants as fault
 use Rattle.parse_expr.specs.Forms.{level_of, ends_at_commas}
 use Rattle.parse_expr.proofs.SpanSteps.{front_read, read_spells, none_spelled, more_left}
 use Rattle.parse_expr.proofs.spans.first_expression.Goals as goal
+
+none_left : (a : ℕ) → nat_eq a 0 ≡ true → a ≡ 0
+none_left a e = grind (arith, nat_tests)
+
+some_left : (a : ℕ) → nat_eq a 0 ≡ false → 0 < a
+some_left a e = grind (arith, nat_tests)
 
 pub returns-in_err-found-clause-none : goal.returns-in_err-found-clause-none
 returns-in_err-found-clause-none c =
@@ -18,20 +25,24 @@ returns-in_err-found-clause-none c =
     let left = err_from_is_err_and c.from_residual.result c.from_residual.ensures.1 in
     rw left.1 (λ e. misses (sym left.2 ∙ e))
 
-pub returns-then-left-eq0-clause-expression : goal.returns-then-left-eq0-clause-expression
-returns-then-left-eq0-clause-expression c =
+pub returns-clause-expression : goal.returns-clause-expression
+returns-clause-expression c =
     let form = c.args.form in
     let whole = span (ends_at_commas form) 0 0 c.args.tokens.now in
     let same = front_read c.args.names.now form c.args.tokens.now c.ends_at_commas.result c.level.result c.span_len-len.result c.new-rest.result
     c.ends_at_commas.ensures c.level.ensures c.span_len-len.ensures.len c.new-rest.ensures in
-    read_spells c.args.names.now form whole c.in_ok-found.found.tree c.in_ok-found.found.height c.expression.new.tokens (omega (arith, c.left.ensures.all))
-    (sym same ∙ c.in_ok-found.ensures.reads)
+    let none = none_left c.left.result c.in_ok-tree.ensures.ok.1 in
+    rw c.in_ok-tree.ensures.ok.0
+    (read_spells c.args.names.now form whole c.in_ok-found.found.tree c.in_ok-found.found.height c.expression.new.tokens (omega (arith, c.left.ensures.all, none))
+    (sym same ∙ c.in_ok-found.ensures.reads))
 
-pub returns-else-left-eq0-clause-none : goal.returns-else-left-eq0-clause-none
-returns-else-left-eq0-clause-none c _ =
+pub returns-in_err-tree-clause-none : goal.returns-in_err-tree-clause-none
+returns-in_err-tree-clause-none c =
     let form = c.args.form in
     let whole = span (ends_at_commas form) 0 0 c.args.tokens.now in
     let same = front_read c.args.names.now form c.args.tokens.now c.ends_at_commas.result c.level.result c.span_len-len.result c.new-rest.result
     c.ends_at_commas.ensures c.level.ensures c.span_len-len.ensures.len c.new-rest.ensures in
-    more_left c.args.names.now form whole c.in_ok-found.found.tree c.in_ok-found.found.height c.expression.new.tokens (omega (arith, c.left.ensures.all))
-    (sym same ∙ c.in_ok-found.ensures.reads)
+    let some = some_left c.left.result c.in_err-tree.ensures.err.1 in
+    let left = err_from_is_err_and c.from_residual-in_err-tree.result c.from_residual-in_err-tree.ensures.1 in
+    rw left.1 (λ _. more_left c.args.names.now form whole c.in_ok-found.found.tree c.in_ok-found.found.height c.expression.new.tokens (omega (arith, c.left.ensures.all, some))
+    (sym same ∙ c.in_ok-found.ensures.reads))

@@ -1,0 +1,15 @@
+-- What a part is where it is kept if a test holds.
+use Rattle.std.proofs.Common.{◌≡◌, List, Result, Ok, Err, Option, Some, None, Bool, true, false}
+use Rattle.std.specs.Prelude.{IfOk, IfErr}
+use Rattle.c_grammar.specs.Terminals.{Lexeme}
+use Rattle.c_grammar.specs.Reading.{Read, found}
+use Rattle.parse_tokens.specs.declared.faults.ParseFault.{ParseFault}
+use Rattle.parse_tokens.specs.declared.faults.ParseFault.TheVariants as fault
+use Rattle.parse_tokens.specs.declared.faults.Tall.{Tall}
+use Rattle.parse_tokens.specs.Gives.{Gives}
+
+pub kept_gives : {A : Type 0} (read : Option (Read A)) (part : Tall A) (holds : Bool) (new : List Lexeme) (r : Result (Tall A) ParseFault) →
+    IfOk r (λ x. (x ≡ part) × (holds ≡ true)) → IfErr r (λ e. (e ≡ fault.NoDerivation) × (holds ≡ false)) →
+    (holds ≡ true → read ≡ Some (found part.tree part.height new)) → (holds ≡ false → read ≡ None) → Gives read r new
+kept_gives read part holds new (Ok x) ok err reads misses = rw ok.0 (reads ok.1)
+kept_gives read part holds new (Err e) ok err reads misses = λ _. misses err.1
