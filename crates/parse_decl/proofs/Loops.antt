@@ -1,19 +1,13 @@
 -- What answers in loops share.
-use Rattle.std.proofs.Common.{◌≡◌, ◌≢◌, ◌≤◌, ℕ, zero, suc, max, List, [], ◌∷◌, length, take, Option, None, refl, sym, ap, ◌∙◌, rules, arith}
+use Rattle.std.proofs.Common.{◌≡◌, ◌≢◌, ◌≤◌, ℕ, zero, suc, List, [], ◌∷◌, length, take, Option, None, refl, sym, ap, ◌∙◌, arith}
 use Rattle.std.specs.Prelude.{Result, Ok, Err}
 use Rattle.std.specs.Result.{IsErrAnd}
-use Rattle.std.specs.Ordering.{ord_max, nat_cmp}
-use Rattle.std.proofs.lemmas.Grind.{common_steps}
 use Rattle.c_grammar.specs.Terminals.{Lexeme}
 use Rattle.c_grammar.specs.Reading.{Read}
 use Rattle.parse_tokens.specs.Gives.{Gives, GivesAs, GivesPart}
 use Rattle.parse_tokens.specs.declared.faults.ParseFault.{ParseFault}
 use Rattle.parse_tokens.specs.declared.faults.ParseFault.TheVariants as fault
 use Rattle.parse_tokens.specs.declared.faults.Tall.{Tall}
-
--- what `a.max(b)` gives
-pub highest : (a b : ℕ) → ord_max nat_cmp a b ≡ max a b
-highest a b = first_of (search rules, grind (arith, common_steps))
 
 pub take_all : {A : Type 0} (xs : List A) (i : ℕ) → length xs ≤ i → take i xs ≡ xs
 take_all [] zero low = refl

@@ -61,6 +61,7 @@ fn takes_attribute(tokens: &mut Tokens<'_>) -> bool
 }
 
 /// Any number of attribute lists (GCC manual, "Attribute Syntax").
+#[tactic(auto, using(parse_parts::proofs::AttributeSteps::before_nothing))]
 fn attribute_lists(
     alloc: Global,
     tokens: &mut Tokens<'_>,

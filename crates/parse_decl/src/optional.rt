@@ -3,14 +3,15 @@
 ghost use Rattle.std.specs.Prelude.{◌≡◌, ◌<◌, ◌≤◌, IfOk};
 ghost use Rattle.c_grammar.specs.Reading.{expression};
 ghost use Rattle.c_grammar.specs.ReadingStatements as spec;
-ghost use Rattle.parse_tokens.specs.Gives.{Gives, Passes};
+ghost use Rattle.parse_tokens.specs.Endings as endings;
+ghost use Rattle.parse_tokens.specs.Gives.{Gives};
 ghost use Rattle.parse_decl.specs.Lists.{after_end, taken};
 
 use c_grammar::Terminal;
 use c_tokens::Punct;
 use c_tree::Expr;
 use parse_expr::{EXPRESSION, expression};
-use parse_tokens::{ParseFault, Tall, Tokens};
+use parse_tokens::{ParseFault, Tall, Tokens, before_right_paren, before_semicolon};
 use std::alloc::Global;
 
 /// What stands behind an expression that may be left out.
@@ -21,12 +22,14 @@ pub enum End {
 }
 
 impl End {
-    fn expect(self, tokens: &mut Tokens<'_>) -> Result<(), ParseFault>
-        ensures { Passes (after_end self tokens.old) result tokens.new }
+    /// The part, if the token comes next.
+    fn behind<T: Drop>(self, tokens: &mut Tokens<'_>, part: Tall<T>) -> Result<Tall<T>, ParseFault>
+        ensures reads { Gives (endings.ended (after_end self) part.tree part.height tokens.old) result tokens.new }
+        ensures same { IfOk result (λ x. x ≡ part) }
     {
         match self {
-            End::Semicolon => tokens.expect_semicolon(),
-            End::RightParen => tokens.expect_right_paren(),
+            End::Semicolon => before_semicolon(tokens, part),
+            End::RightParen => before_right_paren(tokens, part),
         }
     }
 
@@ -56,12 +59,12 @@ fn ended(
     ensures reads { Gives (spec.ended (after_end end) (expression depth) tokens.old) result tokens.new }
     ensures low { IfOk result (λ x. x.height ≤ depth) }
 {
-    let found = expression(alloc, tokens, depth, EXPRESSION)?;
-    end.expect(tokens)?;
-    Ok(Tall {
-        tree: Some(found.tree),
-        height: found.height,
-    })
+    let Tall { tree, height } = expression(alloc, tokens, depth, EXPRESSION)?;
+    let found = Tall {
+        tree: Some(tree),
+        height,
+    };
+    end.behind(tokens, found)
 }
 
 /// `a;` or `;`, and the same with the other end.

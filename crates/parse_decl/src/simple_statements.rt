@@ -12,7 +12,7 @@ use c_grammar::{Keyword, Terminal};
 use c_tree::{Expr, ForHead, Stmt};
 use fc_base::Place;
 use parse_expr::{CONDITIONAL, EXPRESSION, expression};
-use parse_tokens::{ParseFault, Tall, Tokens};
+use parse_tokens::{ParseFault, Tall, Tokens, before_colon, before_right_paren};
 use std::alloc::Global;
 
 /// `case 1:`, behind the word (C11 6.8.1).
@@ -28,14 +28,14 @@ fn case_label(
     ensures low { IfOk result (λ x. x.height ≤ depth + 1) }
 {
     let value = expression(alloc, tokens, depth, CONDITIONAL)?;
-    tokens.expect_colon()?;
-    Ok(Tall {
+    let label = Tall {
         tree: Stmt::Case {
             value: value.tree,
             place,
         },
         height: value.height + 1,
-    })
+    };
+    before_colon(tokens, label)
 }
 
 /// `default:`, behind the word (C11 6.8.1).
@@ -138,8 +138,7 @@ pub fn condition(
 {
     tokens.expect_left_paren()?;
     let found = expression(alloc, tokens, depth, EXPRESSION)?;
-    tokens.expect_right_paren()?;
-    Ok(found)
+    before_right_paren(tokens, found)
 }
 
 /// What stands first in the head of a `for`, with its semicolon (C11 6.8.5).

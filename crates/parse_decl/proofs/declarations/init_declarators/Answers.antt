@@ -8,7 +8,8 @@ use Rattle.parse_declarators.specs.Named.{named_of}
 use Rattle.parse_decl.specs.Declarations.{declared_of}
 use Rattle.parse_decl.specs.Readers.{init_declarators_from}
 use Rattle.parse_tokens.proofs.Turns.{one_more, no_more}
-use Rattle.parse_decl.proofs.Loops.{highest, err_gives_as}
+use Rattle.parse_tokens.proofs.Turns.{highest}
+use Rattle.parse_decl.proofs.Loops.{err_gives_as}
 use Rattle.parse_decl.proofs.InitDeclarators.{gathered, from_fail, from_no_end, from_end, from_no_next, from_go, from_none}
 use Rattle.parse_decl.proofs.declarations.init_declarators.Goals as goal
 
