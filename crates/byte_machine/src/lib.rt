@@ -4,8 +4,6 @@
 mod images;
 mod machine;
 mod opening;
-#[cfg(test)]
-mod tests;
 
 pub use images::{FnRec, Image};
 pub use machine::{Machine, Step, Stop};

@@ -8,6 +8,3 @@ mod laws;
 pub use forms::Form;
 pub use front::read_source;
 pub use laws::{numbers_are_lexed, one_front};
-
-#[cfg(test)]
-mod tests;

@@ -6,8 +6,6 @@ mod layouts;
 mod library;
 mod sizes;
 mod tags;
-#[cfg(test)]
-mod tests;
 mod types;
 
 pub use laws::{alignment_law, next_multiple_law, placement_law};

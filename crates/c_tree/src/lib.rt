@@ -8,8 +8,6 @@ mod nodes;
 mod operators;
 mod programs;
 mod statements;
-#[cfg(test)]
-mod tests;
 mod typed;
 mod weights;
 

@@ -9,8 +9,3 @@ mod top;
 
 pub use outcomes::{Outcome, fault_line, status};
 pub use top::fort;
-
-#[cfg(test)]
-mod rows;
-#[cfg(test)]
-mod tests;

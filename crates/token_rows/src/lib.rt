@@ -1,4 +1,4 @@
-//! Rows for the phases before the parser. There is nothing here but tests: they stand apart from the phases, so that a
+//! Rows for tokens and the phases before the parser. There is nothing here but tests: they stand apart from the phases, so that a
 //! phase isn't proved again for its rows.
 #![tactic(auto)]
 
@@ -8,5 +8,7 @@ mod conditions;
 mod lexing;
 #[cfg(test)]
 mod macros;
+#[cfg(test)]
+mod spellings;
 #[cfg(test)]
 mod texts;

@@ -1,7 +1,7 @@
 //! What a machine that is opened does when it runs.
 
-use crate::{FnRec, Image, Machine, Stop};
 use bm_isa::Instr;
+use byte_machine::{FnRec, Image, Machine, Stop};
 use fc_base::{End, MemSink, MemSource, Words};
 use std::test::Fail;
 

@@ -1,28 +1,53 @@
 //! Sources with their form or refusal, worked out by hand from C11 6.4 to 6.10 and from the rules of the subset.
 
-use crate::read_source;
-use fc_base::{Fault, Level, Place};
+use c_front::{Form, read_source};
+use fc_base::{Fault, Level, NoMemory, Place, Refusal};
 use std::alloc::Global;
+use std::process::Abort;
 use std::test::Fail;
 
 /// The form's numbers and the place of its call, or the rule that is broken and where.
-fn shown(alloc: Global, source: &[u8], level: Level) -> Result<String, Fail> {
-    let mut out = String::new(alloc);
-    if source.len() < 4_294_967_295 {
-        match read_source(alloc, source, level) {
-            Ok(form) => {
-                let Place { line, col } = form.call;
-                write!(out, "{} {} {}", form.size, form.byte, form.count)?;
-                write!(out, " {} {line}:{col}", form.result)?;
-            }
-            Err(Fault::Refused(refusal)) => {
-                let Place { line, col } = refusal.place;
-                write!(out, "{} {line}:{col}", refusal.rule.name())?;
-            }
-            Err(Fault::NoMemory) => out.push_str("no memory")?,
+fn push_outcome(out: &mut String, outcome: &Result<Form, Fault>) -> Result<(), NoMemory> {
+    match outcome {
+        Ok(form) => {
+            let Place { line, col } = form.call;
+            write!(out, "{} {} {}", form.size, form.byte, form.count)?;
+            write!(out, " {} {line}:{col}", form.result)?;
         }
+        Err(Fault::Refused(Refusal { rule, place })) => {
+            write!(out, "{} {}:{}", rule.name(), place.line, place.col)?;
+        }
+        Err(Fault::NoMemory) => out.push_str("no memory")?,
     }
-    Ok(out)
+    Ok(())
+}
+
+/// What a source that is not too long comes to.
+fn push_source(
+    out: &mut String,
+    alloc: Global,
+    source: &[u8],
+    level: Level,
+) -> Result<(), NoMemory> {
+    if source.len() < 4_294_967_295 {
+        push_outcome(out, &read_source(alloc, source, level))
+    } else {
+        Ok(())
+    }
+}
+
+/// Asserts that the source comes to this.
+fn assert_read(
+    rt: &impl Abort,
+    alloc: Global,
+    source: &[u8],
+    level: Level,
+    want: &str,
+) -> Result<(), NoMemory> {
+    let mut out = String::new(alloc);
+    push_source(&mut out, alloc, source, level)?;
+    assert_eq!(rt; out.as_str(), want);
+    Ok(())
 }
 
 const AT_LEVEL_THREE: &[(&[u8], &str)] = &[
@@ -205,8 +230,7 @@ const AT_LEVEL_THREE: &[(&[u8], &str)] = &[
 #[test]
 fn sources_at_level_three(rt: HostRuntime) -> Result<(), Fail> {
     for &(source, want) in AT_LEVEL_THREE {
-        let got = shown(rt.alloc(), source, Level::Three)?;
-        assert_eq!(rt; got.as_str(), want);
+        assert_read(&rt, rt.alloc(), source, Level::Three, want)?;
     }
     Ok(())
 }
@@ -268,44 +292,79 @@ const REFUSED: &[(&[u8], &str)] = &[
 #[test]
 fn the_first_phase_that_refuses(rt: HostRuntime) -> Result<(), Fail> {
     for &(source, want) in REFUSED {
-        let got = shown(rt.alloc(), source, Level::Three)?;
-        assert_eq!(rt; got.as_str(), want);
+        assert_read(&rt, rt.alloc(), source, Level::Three, want)?;
     }
     Ok(())
 }
 
-/// So many opening brackets between two texts.
-fn opened(alloc: Global, before: &[u8], count: usize, behind: &[u8]) -> Result<Vec<u8>, Fail> {
-    let mut source = Vec::from_slice(alloc, before)?;
-    for _ in 0..count {
-        source.push(b'(')?;
+fn push_repeated(source: &mut Vec<u8>, byte: u8, times: usize) -> Result<(), NoMemory> {
+    for _ in 0..times {
+        source.push(byte)?;
     }
-    source.extend_from_slice(behind)?;
-    Ok(source)
+    Ok(())
 }
 
 /// A function that returns 0 in so many brackets.
-fn bracketed(alloc: Global, count: usize) -> Result<Vec<u8>, Fail> {
-    let mut source = opened(alloc, b"int main(void) { return ", count, b"0")?;
-    for _ in 0..count {
-        source.push(b')')?;
-    }
+fn push_bracketed(source: &mut Vec<u8>, times: usize) -> Result<(), NoMemory> {
+    source.extend_from_slice(b"int main(void) { return ")?;
+    push_repeated(source, b'(', times)?;
+    source.push(b'0')?;
+    push_repeated(source, b')', times)?;
     source.extend_from_slice(b"; }")?;
-    Ok(source)
+    Ok(())
 }
+
+/// Asserts what that function comes to.
+fn assert_bracketed(
+    rt: &impl Abort,
+    alloc: Global,
+    times: usize,
+    want: &str,
+) -> Result<(), NoMemory> {
+    let mut source = Vec::new(alloc);
+    push_bracketed(&mut source, times)?;
+    assert_read(rt, alloc, &source, Level::Three, want)
+}
+
+const BRACKETED: &[(usize, &str)] = &[(199, "not-this-form 1:1"), (200, "limit-depth 1:224")];
+
+/// So many opening brackets between two texts.
+fn push_opened(
+    source: &mut Vec<u8>,
+    before: &[u8],
+    times: usize,
+    behind: &[u8],
+) -> Result<(), NoMemory> {
+    source.extend_from_slice(before)?;
+    push_repeated(source, b'(', times)?;
+    source.extend_from_slice(behind)?;
+    Ok(())
+}
+
+/// Asserts what these come to.
+fn assert_opened(
+    rt: &impl Abort,
+    alloc: Global,
+    &(before, times, behind, want): &(&[u8], usize, &[u8], &str),
+) -> Result<(), NoMemory> {
+    let mut source = Vec::new(alloc);
+    push_opened(&mut source, before, times, behind)?;
+    assert_read(rt, alloc, &source, Level::Three, want)
+}
+
+const OPENED: &[(&[u8], usize, &[u8], &str)] = &[
+    (b"", 201, b" goto", "left-out-keyword 1:203"),
+    (b";", 201, b"", "limit-depth 1:202"),
+    (b";", 200, b"", "syntax 1:1"),
+];
 
 #[test]
 fn brackets_at_their_limit(rt: HostRuntime) -> Result<(), Fail> {
-    let alloc = rt.alloc();
-    for (source, want) in [
-        (bracketed(alloc, 199)?, "not-this-form 1:1"),
-        (bracketed(alloc, 200)?, "limit-depth 1:224"),
-        (opened(alloc, b"", 201, b" goto")?, "left-out-keyword 1:203"),
-        (opened(alloc, b";", 201, b"")?, "limit-depth 1:202"),
-        (opened(alloc, b";", 200, b"")?, "syntax 1:1"),
-    ] {
-        let got = shown(alloc, source.as_slice(), Level::Three)?;
-        assert_eq!(rt; got.as_str(), want);
+    for &(times, want) in BRACKETED {
+        assert_bracketed(&rt, rt.alloc(), times, want)?;
+    }
+    for row in OPENED {
+        assert_opened(&rt, rt.alloc(), row)?;
     }
     Ok(())
 }
@@ -324,8 +383,7 @@ const AT_LEVEL_ZERO: &[(&[u8], &str)] = &[
 #[test]
 fn sources_at_level_zero(rt: HostRuntime) -> Result<(), Fail> {
     for &(source, want) in AT_LEVEL_ZERO {
-        let got = shown(rt.alloc(), source, Level::Zero)?;
-        assert_eq!(rt; got.as_str(), want);
+        assert_read(&rt, rt.alloc(), source, Level::Zero, want)?;
     }
     Ok(())
 }
