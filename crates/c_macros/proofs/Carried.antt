@@ -1,5 +1,5 @@
 -- What the loop over directives and texts keeps: whatever the rest comes to completes the whole.
-use Rattle.std.proofs.Common.{◌≡◌, ℕ, ◌+◌, true, false, List, [], ◌++◌, take, drop, get_or, map, Result, Ok, Err, Vec, Global, refl, sym, ap, subst, ◌∙◌, append_assoc}
+use Rattle.std.proofs.Common.{◌≡◌, ℕ, ◌+◌, true, false, List, [], ◌++◌, take, drop, get_or, map, Result, Ok, Err, refl, sym, ap, subst, ◌∙◌, append_assoc}
 use Rattle.std.proofs.lemmas.List.{append-nil}
 use Rattle.fc_base.specs.Answers.{Answers, Fails}
 use Rattle.fc_base.specs.declared.Fault.{Fault}
@@ -46,10 +46,10 @@ module _ (start : State) (from : ℕ) (all before : List Token) (st : State) (co
   stopped (Refused e) st' after d = k.carries (Err e) (comes_to refl d.1 stops)
 
   -- the end
-  pub finished : (r : Result (Vec Token Global) Fault) → front ts ≡ nothing → EndsAs r before (at_end st.groups) → Answers (λ v. v.items) r (Moved start from all)
-  finished (Ok v) f e =
-      let r : Moved start from all (Ok (before ++ [])) = k.carries (Ok []) (ends (ap (on_front st) f ∙ e.0)) in
-      rw e.1 (rw append-nil at r)
+  pub finished : (r : Result (Unit {0}) Fault) → front ts ≡ nothing → EndsAs r (at_end st.groups) → Answers (λ u. before) r (Moved start from all)
+  finished (Ok u) f e =
+      let r : Moved start from all (Ok (before ++ [])) = k.carries (Ok []) (ends (ap (on_front st) f ∙ e)) in
+      rw append-nil at r
   finished (Err NoMemory) f e = tt
   finished (Err (Refused q)) f e = k.carries (Err q) (moved (ap (on_front st) f ∙ e) stops)
 

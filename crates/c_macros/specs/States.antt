@@ -16,8 +16,6 @@ use Rattle.c_expansion.specs.Moves.{State, Next, refuses, goes, Move, over, move
 use Rattle.std.specs.Prelude.{take, drop, length, ◌≤◌, ◌+◌, if◌then◌else◌}
 use Rattle.c_replacement.specs.declared.Macro.{Macro}
 use Rattle.std.specs.Borrow.{Bor}
-use Rattle.std.specs.Prelude.{Vec}
-use Rattle.std.specs.Global.{Global}
 use Rattle.fc_base.specs.declared.Rule.{Rule}
 use Rattle.fc_base.specs.declared.Place.{Place}
 
@@ -29,6 +27,10 @@ definition_view d = record { name = d.name.now; parameters = option_map (λ s. n
 
 abbrev pub parameters_view : Names → Parameters
 parameters_view p = record { names = names p.names.keys; rest = p.rest.now }
+
+-- the parameters of these names, and the tokens after them
+abbrev pub with_rest : List Name → Bor (List Token) → Parameters
+with_rest names rest = record { names = names; rest = rest.now }
 
 -- a name with what it stands for
 abbrev pub entry_view : Bor (List ℕ) × Macro → Name × Meaning
@@ -59,11 +61,11 @@ entry_views = map entry_view
 abbrev pub Refuses : {T : Type 0} → Result T Fault → Rule → Place → Type 0
 Refuses r rule place = r ≡ Err (Refused (record { rule = rule; place = place }))
 
--- the end of a list, where these tokens were given
-abbrev pub EndsAs : Result (Vec Token Global) Fault → List Token → Move → Type 0
-EndsAs (Ok v) done m = (m ≡ over) × (v.items ≡ done)
-EndsAs (Err NoMemory) done m = Unit {0}
-EndsAs (Err (Refused e)) done m = m ≡ moves (refuses e)
+-- the end of a list
+abbrev pub EndsAs : Result (Unit {0}) Fault → Move → Type 0
+EndsAs (Ok u) m = m ≡ over
+EndsAs (Err NoMemory) m = Unit {0}
+EndsAs (Err (Refused e)) m = m ≡ moves (refuses e)
 
 abbrev pub meaning_of : Option (List Name) → List Token → Meaning
 meaning_of parameters body = record { parameters = parameters; body = map (piece parameters) body }

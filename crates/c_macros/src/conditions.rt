@@ -1,10 +1,10 @@
 //! The conditions of `if` and `elif` directives (C11 6.10.1).
 
-ghost use Rattle.std.specs.Prelude.{◌≡◌, ◌+◌, ◌≤◌, length, IfOk, IfSome, option_map, map};
+ghost use Rattle.std.specs.Prelude.{◌≡◌, ◌+◌, ◌≤◌, length, IfOk, IfSome, option_map, map, if◌then◌else◌, Some, None, []};
 ghost use Rattle.c_expansion.specs.Macros.{opens, closes, item, items};
 ghost use Rattle.c_expansion.specs.Moves.{bracketed, asked, is_defined, answer, with_answers};
 ghost use Rattle.c_replacement.specs.Views.{table, view, views};
-ghost use Rattle.c_conditions.specs.Conditions.{now};
+ghost use Rattle.c_conditions.specs.Conditions.{now, Decides};
 ghost use Rattle.c_macros.specs.States.{Refuses};
 ghost use Rattle.c_macros.specs.Comes.{HoldsAs};
 
@@ -97,6 +97,34 @@ fn answer<'a>(tokens: &'a Builtins, macros: &Macros<'a>, token: &Token, name: &[
     }
 }
 
+/// Puts the line with each `defined NAME` and `defined ( NAME )` answered into an empty list, and tells whether each
+/// `defined` has a name.
+fn push_answered<'a>(
+    tokens: &'a Builtins,
+    macros: &Macros<'a>,
+    line: &'a [Token],
+    answered: &mut Vec<Item<'a>>,
+) -> Result<bool, AllocError>
+    requires { answered.old.items ≡ [] }
+    ensures { IfOk result (λ whole. (if whole then Some (views answered.new.items) else None) ≡ option_map items (with_answers (table macros.now) 0 line.now)) }
+{
+    let mut at = 0;
+    while at < line.len() {
+        let token = &line[at];
+        at += 1;
+        if is_defined(&token.kind) {
+            let Some((name, used)) = asked(after(line, at)) else {
+                return Ok(false);
+            };
+            answered.push(answer(tokens, macros, token, name))?;
+            at += used;
+        } else {
+            answered.push(item(&token.kind, token))?;
+        }
+    }
+    Ok(true)
+}
+
 /// The line with each `defined NAME` and `defined ( NAME )` answered, none where a `defined` has no name.
 fn with_answers<'a>(
     alloc: Global,
@@ -107,21 +135,8 @@ fn with_answers<'a>(
     ensures { IfOk result (λ o. option_map (λ v. views v.items) o ≡ option_map items (with_answers (table macros.now) 0 line.now)) }
 {
     let mut answered = Vec::new(alloc);
-    let mut at = 0;
-    while at < line.len() {
-        let token = &line[at];
-        at += 1;
-        if is_defined(&token.kind) {
-            let Some((name, used)) = asked(after(line, at)) else {
-                return Ok(None);
-            };
-            answered.push(answer(tokens, macros, token, name))?;
-            at += used;
-        } else {
-            answered.push(item(&token.kind, token))?;
-        }
-    }
-    Ok(Some(answered))
+    let whole = push_answered(tokens, macros, line, &mut answered)?;
+    if whole { Ok(Some(answered)) } else { Ok(None) }
 }
 
 fn kinds<'a>(alloc: Global, items: &[Item<'a>]) -> Result<Vec<&'a TokenKind>, AllocError>
@@ -140,6 +155,14 @@ pub fn refuse<T>(rule: Rule, place: Place) -> Result<T, Fault>
     Err(Fault::Refused(Refusal { rule, place }))
 }
 
+/// Whether the items are a condition that holds, none where they are no condition.
+fn decided(alloc: Global, items: &[Item<'_>]) -> Result<Option<bool>, AllocError>
+    ensures { IfOk result (λ d. Decides (map (λ x. x.kind) (views items.now)) d) }
+{
+    let kinds = kinds(alloc, items)?;
+    condition(alloc, &kinds)
+}
+
 /// Whether the condition of a line holds, and the count of tokens after it.
 pub fn holds<'a>(
     alloc: Global,
@@ -155,8 +178,7 @@ pub fn holds<'a>(
         return refuse(Rule::BadCondition, place);
     };
     let (items, count) = replace(alloc, macros, items, count)?;
-    let kinds = kinds(alloc, &items)?;
-    match condition(alloc, &kinds)? {
+    match decided(alloc, &items)? {
         Some(holds) => Ok((holds, count)),
         None => refuse(Rule::BadCondition, place),
     }

@@ -5,7 +5,7 @@ ghost use Rattle.std.specs.List.{list_any, position};
 ghost use Rattle.c_expansion.specs.Macros.{opens, same_name};
 ghost use Rattle.c_expansion.specs.Definitions.{is_defined_word, macro_name, separator, some_parameters, parameters_of, distinct, opens_at_once, defined_as, definition, named_piece, piece, is_operator};
 ghost use Rattle.c_replacement.specs.Views.{names, piece_view, piece_views, meaning_view};
-ghost use Rattle.c_macros.specs.States.{definition_view, parameters_view, meaning_of};
+ghost use Rattle.c_macros.specs.States.{definition_view, parameters_view, with_rest, meaning_of};
 
 use crate::lines::{after, name_of, same_name};
 use c_expansion::Separator;
@@ -73,29 +73,41 @@ fn add_parameter<'a>(
     Ok(is_new)
 }
 
-/// Different names with commas between them and a closing bracket behind the last.
-fn some_parameters(
-    alloc: Global,
-    mut tokens: &[Token],
-) -> Result<Option<Parameters<'_>>, AllocError>
-    ensures { IfOk result (λ o. option_map parameters_view o ≡ distinct (some_parameters tokens.entry.now)) }
+/// Puts different names with commas between them into an empty set, and gives the tokens after the closing bracket
+/// behind the last of them.
+fn read_parameters<'a>(
+    parameters: &mut IndexSet<&'a [u8]>,
+    mut tokens: &'a [Token],
+) -> Result<Option<&'a [Token]>, AllocError>
+    requires { names parameters.old.keys ≡ [] }
+    ensures { IfOk result (λ o. option_map (with_rest (names parameters.new.keys)) o ≡ distinct (some_parameters tokens.entry.now)) }
 {
-    let mut names = IndexSet::new(alloc);
     while tokens.len() >= 2 {
         let Some(name) = name_of(&tokens[0].kind) else {
             return Ok(None);
         };
-        if !add_parameter(&mut names, name)? {
+        if !add_parameter(parameters, name)? {
             return Ok(None);
         }
         let rest = after(tokens, 2);
         match separator(&tokens[1].kind) {
-            Separator::Last => return Ok(Some(Parameters { names, rest })),
+            Separator::Last => return Ok(Some(rest)),
             Separator::Another => tokens = rest,
             Separator::Neither => return Ok(None),
         }
     }
     Ok(None)
+}
+
+/// Different names with commas between them and a closing bracket behind the last.
+fn some_parameters(alloc: Global, tokens: &[Token]) -> Result<Option<Parameters<'_>>, AllocError>
+    ensures { IfOk result (λ o. option_map parameters_view o ≡ distinct (some_parameters tokens.now)) }
+{
+    let mut names = IndexSet::new(alloc);
+    match read_parameters(&mut names, tokens)? {
+        Some(rest) => Ok(Some(Parameters { names, rest })),
+        None => Ok(None),
+    }
 }
 
 /// The parameters after the opening bracket, none where a name stands twice.

@@ -40,8 +40,8 @@ pub fn add_macro<'a>(
 }
 
 /// Adds macros in the order from the last one, and tells whether no name had another meaning.
-fn add_macros<'a>(macros: &mut Macros<'a>, mut entries: Vec<Entry<'a>>) -> Result<bool, AllocError>
-    ensures { IfOk result (λ ok. with_definitions (entry_views (reverse entries.entry.items)) (table macros.old) ≡ (if ok then Some (table macros.new) else None)) }
+fn add_macros<'a>(macros: &mut Macros<'a>, entries: &mut Vec<Entry<'a>>) -> Result<bool, AllocError>
+    ensures { IfOk result (λ ok. with_definitions (entry_views (reverse entries.old.items)) (table macros.old) ≡ (if ok then Some (table macros.new) else None)) }
 {
     while let Some((name, meaning)) = entries.pop() {
         if !add_macro(macros, name, meaning)? {
@@ -49,6 +49,20 @@ fn add_macros<'a>(macros: &mut Macros<'a>, mut entries: Vec<Entry<'a>>) -> Resul
         }
     }
     Ok(true)
+}
+
+/// Adds the macros of a header, and tells whether no name had another meaning.
+fn add_header<'a>(
+    alloc: Global,
+    tokens: &'a Builtins,
+    macros: &mut Macros<'a>,
+    header: HeaderId,
+) -> Result<bool, AllocError>
+    ensures { IfOk result (λ ok. with_definitions (header_macros header) (table macros.old) ≡ (if ok then Some (table macros.new) else None)) }
+{
+    let mut entries = header_macros(alloc, tokens, header)?;
+    entries.reverse();
+    add_macros(macros, &mut entries)
 }
 
 fn define<'a>(
@@ -144,9 +158,7 @@ fn include<'a>(
     if is_included(&st.headers, header) {
         return Ok(None);
     }
-    let mut entries = header_macros(alloc, tokens, header)?;
-    entries.reverse();
-    if !add_macros(&mut st.macros, entries)? {
+    if !add_header(alloc, tokens, &mut st.macros, header)? {
         return refuse(Rule::Redefined, hash.place);
     }
     st.headers.push(header)?;

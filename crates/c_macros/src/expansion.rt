@@ -1,10 +1,10 @@
 //! The whole list, directive by directive and text by text.
 
-ghost use Rattle.std.specs.Prelude.{◌≡◌, ◌++◌, ◌≤◌, length, List, IfOk, OnOk, map, reverse};
+ghost use Rattle.std.specs.Prelude.{◌≡◌, ◌++◌, ◌≤◌, length, List, [], IfOk, OnOk, map, reverse};
 ghost use Rattle.std.specs.List.{All};
 ghost use Rattle.fc_base.specs.Answers.{Answers};
 ghost use Rattle.c_expansion.specs.Macros.{Macros, items, no_macros};
-ghost use Rattle.c_expansion.specs.Expansion.{Expanded, IsExpanded};
+ghost use Rattle.c_expansion.specs.Expansion.{Expanded, IsExpanded, Moved};
 ghost use Rattle.c_tokens.specs.Pieces.{IsLexedKind};
 ghost use Rattle.c_expansion.specs.Moves as moves;
 ghost use Rattle.c_replacement.specs.Views.{table, views};
@@ -66,11 +66,11 @@ fn start<'a>(alloc: Global, tokens: &'a Builtins, level: Level) -> Result<State<
 }
 
 /// The end of the list, where no conditional may be open.
-fn finish(done: Vec<Token>, groups: &[Group]) -> Result<Vec<Token>, Fault>
-    ensures { EndsAs result done.items (moves.at_end (reverse groups.now)) }
+fn finish(groups: &[Group]) -> Result<(), Fault>
+    ensures { EndsAs result (moves.at_end (reverse groups.now)) }
 {
     if groups.is_empty() {
-        Ok(done)
+        Ok(())
     } else {
         refuse(Rule::OpenConditional, groups[0].place)
     }
@@ -112,6 +112,35 @@ fn line_part<'a>(
     directive(alloc, tokens, st, &rest[0], line, done, count)
 }
 
+/// Goes through the list part by part, and puts what the parts give into the empty list `done`.
+fn take_parts<'a>(
+    alloc: Global,
+    tokens: &'a Builtins,
+    source: &'a [Token],
+    st: &mut State<'a>,
+    done: &mut Vec<Token>,
+) -> Result<(), Fault>
+    requires { done.old.items ≡ [] }
+    ensures { Answers (λ u. done.new.items) result (Moved (state st.old) (length source.now) source.now) }
+{
+    let mut count = source.len() as u64;
+    let mut at = 0;
+    'parts: loop {
+        let rest = after(source, at);
+        match part_of(rest) {
+            Part::Nothing => return finish(&st.groups),
+            Part::Text(n) => {
+                count = text_part(alloc, st, rest, n, done, count)?;
+                at += n;
+            }
+            Part::Line(n) => {
+                count = line_part(alloc, tokens, st, rest, n, done, count)?;
+                at += n + 1;
+            }
+        }
+    }
+}
+
 fn run<'a>(
     alloc: Global,
     tokens: &'a Builtins,
@@ -122,21 +151,11 @@ fn run<'a>(
 {
     let mut st = start(alloc, tokens, level)?;
     let mut done = Vec::new(alloc);
-    let mut count = source.len() as u64;
-    let mut at = 0;
-    'parts: loop {
-        let rest = after(source, at);
-        match part_of(rest) {
-            Part::Nothing => return finish(done, &st.groups),
-            Part::Text(n) => {
-                count = text_part(alloc, &st, rest, n, &mut done, count)?;
-                at += n;
-            }
-            Part::Line(n) => {
-                count = line_part(alloc, tokens, &mut st, rest, n, &mut done, count)?;
-                at += n + 1;
-            }
-        }
+    let end = take_parts(alloc, tokens, source, &mut st, &mut done);
+    drop(st);
+    match end {
+        Ok(()) => Ok(done),
+        Err(fault) => Err(fault),
     }
 }
 
@@ -150,5 +169,7 @@ pub fn expand(alloc: Global, tokens: &[Token], level: Level) -> Result<Vec<Token
     ensures kinds { All (λ t. IsLexedKind t.kind) tokens.now → IfOk result (λ v. All (λ t. IsLexedKind t.kind) v.items) }
 {
     let builtins = make_builtins(alloc)?;
-    run(alloc, &builtins, tokens, level)
+    let list = run(alloc, &builtins, tokens, level);
+    drop(builtins);
+    list
 }

@@ -1,7 +1,7 @@
 -- What the loops keep: whatever the rest gives completes the whole.
 use Rattle.std.proofs.Common.{◌≡◌, ℕ, ◌+◌, ◌≤◌, ◌<◌, Bool, List, [], ◌∷◌, ◌++◌, map, length, Option, Some, Ok, Err, refl, sym, ap, ◌∙◌, subst, append_assoc}
 use Rattle.std.specs.List.{slice_get}
-use Rattle.std.proofs.lemmas.List.{append-nil, map-append, map_push}
+use Rattle.std.proofs.lemmas.List.{append-nil, map-append}
 use Rattle.fc_base.specs.declared.Place.{Place}
 use Rattle.fc_base.specs.declared.Fault.{Fault}
 use Rattle.fc_base.specs.declared.Fault.TheVariants.{Refused, NoMemory}
@@ -11,7 +11,7 @@ use Rattle.fc_base.specs.Answers.{Fails}
 use Rattle.c_tokens.specs.Tokens.{token_limit}
 use Rattle.c_expansion.specs.Macros.{HideSet, Item, token, Piece, plain, parameter, Meaning, Macros, Argument}
 use Rattle.c_replacement.specs.declared.items.Item.{Item as Held}
-use Rattle.c_replacement.specs.Views.{view, views}
+use Rattle.c_replacement.specs.Views.{views}
 use Rattle.c_expansion.specs.Turns.{meaning_of, Turn, turn, by_meaning, stays, bad_call, becomes}
 use Rattle.c_expansion.specs.Replacement.{Outcome, after, replacing, hidden, argument_text, too_many_at, bad_call_at, Expands, over, kept, refused_call, refused_argument, too_many, replaced, Substitutes, whole, own, refused, of_argument, Readies}
 
@@ -88,11 +88,11 @@ pub record Adds (ms : Macros) (depth : ℕ) (place : Place) (hide : HideSet) (fr
   pub owed : Finishes ms depth place hide from args body added count now rest
 
 module _ (ms : Macros) (depth : ℕ) (place : Place) (hide : HideSet) (from : ℕ) (args : List Argument) (body : List Piece) (before after : List Held) (count : ℕ) (now : List Argument) where
-  pub adds_plain : (kind : TokenKind) (spaced : Bool) (rest : List Piece) (x : Held) → view x ≡ replacing place hide kind spaced → Adds ms depth place hide from args body before after count now (plain kind spaced ∷ rest)
-      → Adds ms depth place hide from args body before (after ++ x ∷ []) count now rest
-  adds_plain kind spaced rest x is a = record {
+  pub adds_plain : (kind : TokenKind) (spaced : Bool) (rest : List Piece) (new : List Held) → views new ≡ views after ++ replacing place hide kind spaced ∷ [] → Adds ms depth place hide from args body before after count now (plain kind spaced ∷ rest)
+      → Adds ms depth place hide from args body before new count now rest
+  adds_plain kind spaced rest new is a = record {
     added = a.added ++ replacing place hide kind spaced ∷ [];
-    stands = rw (map_push, a.stands, is, append_assoc) refl;
+    stands = rw (is, a.stands, append_assoc) refl;
     owed = finishes_plain ms depth place hide from args body a.added count now kind spaced rest a.owed;
   }
 

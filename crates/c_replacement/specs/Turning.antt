@@ -9,7 +9,7 @@ use Rattle.c_replacement.specs.declared.calls.Call.{Call as Gathered}
 use Rattle.c_replacement.specs.declared.turns.Turn.{Turn as Taken}
 use Rattle.c_replacement.specs.declared.turns.Turn.TheVariants.{Stays, BadCall, Becomes}
 use Rattle.c_replacement.specs.declared.items.Item.{Item as Held}
-use Rattle.c_expansion.specs.Macros.{HideSet, Item, token, Macros, Argument, written, expanded}
+use Rattle.c_expansion.specs.Macros.{Name, HideSet, Item, token, Macros, Argument, written, expanded}
 use Rattle.c_expansion.specs.Replacement.{Outcome, Expands}
 use Rattle.c_expansion.specs.Turns.{Action, ends, parts, goes, Call, arguments, Turn, stays, bad_call, becomes, turn}
 use Rattle.c_replacement.specs.HideSets.{held}
@@ -24,6 +24,11 @@ action_view (Goes n) = goes n
 abbrev pub IsCall : List Argument → HideSet → List Item → Option Call → Type 0
 IsCall args close rest None = ⊥
 IsCall args close rest (Some c) = (arguments c ≡ args) × (c.close ≡ close) × (c.rest ≡ rest)
+
+-- a call whose last argument has these tokens, by the hide set of its closing bracket
+abbrev pub ClosesAs : Option (List Name) → List Argument → List Item → List Item → Option Call → Type 0
+ClosesAs None args last rest c = c ≡ None
+ClosesAs (Some close) args last rest c = IsCall (args ++ written last ∷ []) (held close) rest c
 
 abbrev pub GathersAs : Option Gathered → List Item → Option Call → Type 0
 GathersAs None rest c = c ≡ None

@@ -2,14 +2,15 @@
 
 ghost use Rattle.std.specs.Prelude.{◌≡◌, ℕ, ◌+◌, ◌≤◌, ◌^◌, ◌<◌, IfOk, vec_len, [], ◌∷◌};
 ghost use Rattle.c_expansion.specs.Turns.{action, call, is_empty, right_number};
-ghost use Rattle.c_replacement.specs.Views.{left, argument_view, argument_views};
-ghost use Rattle.c_replacement.specs.Turning.{action_view, GathersAs, IsNear};
+ghost use Rattle.c_replacement.specs.Views.{left, views, argument_view, argument_views};
+ghost use Rattle.c_replacement.specs.Turning.{action_view, ClosesAs, GathersAs, IsNear};
 
 use crate::hide::HideSet;
 use crate::items::{Argument, Arguments, Item};
 use c_tokens::{Punct, TokenKind};
 use smallvec::SmallVec;
 use std::alloc::{AllocError, Global};
+use std::mem;
 
 /// What a token does within a call.
 #[derive(Clone, Copy)]
@@ -54,6 +55,37 @@ fn step_of(nest: usize, kind: &TokenKind) -> Step
     }
 }
 
+/// Takes a call off what is left, and gives the hide set of its closing bracket. All arguments but the last one go behind
+/// the others, and the tokens of the last one stand in `current`.
+fn take_call<'a>(
+    alloc: Global,
+    pending: &mut Vec<Item<'a>>,
+    args: &mut Arguments<'a>,
+    current: &mut Vec<Item<'a>>,
+) -> Result<Option<HideSet<'a>>, AllocError>
+    requires args { args.old.items ≡ [] }
+    requires current { current.old.items ≡ [] }
+    ensures found { IfOk result (λ o. ClosesAs o (argument_views args.new.items) (views current.new.items) (left pending.new.items) (call 0 (left pending.old.items))) }
+    ensures shorter { vec_len pending.new ≤ vec_len pending.old }
+{
+    let mut nest = 0;
+    while let Some(item) = pending.pop() {
+        match step_of(nest, item.kind) {
+            Step::Ends => return Ok(Some(item.hide)),
+            Step::Parts => {
+                let whole = mem::replace(current, Vec::new(alloc));
+                args.push(Argument::Written(whole))?;
+                nest = 0;
+            }
+            Step::Goes(now) => {
+                current.push(item)?;
+                nest = now;
+            }
+        }
+    }
+    Ok(None)
+}
+
 /// Takes the arguments of a call off what is left, with the closing bracket.
 pub fn gather<'a>(
     alloc: Global,
@@ -64,28 +96,13 @@ pub fn gather<'a>(
 {
     let mut args = SmallVec::new(alloc);
     let mut current = Vec::new(alloc);
-    let mut nest = 0;
-    while let Some(item) = pending.pop() {
-        match step_of(nest, item.kind) {
-            Step::Ends => {
-                args.push(Argument::Written(current))?;
-                return Ok(Some(Call {
-                    args,
-                    close: item.hide,
-                }));
-            }
-            Step::Parts => {
-                args.push(Argument::Written(current))?;
-                current = Vec::new(alloc);
-                nest = 0;
-            }
-            Step::Goes(now) => {
-                current.push(item)?;
-                nest = now;
-            }
+    match take_call(alloc, pending, &mut args, &mut current)? {
+        None => Ok(None),
+        Some(close) => {
+            args.push(Argument::Written(current))?;
+            Ok(Some(Call { args, close }))
         }
     }
-    Ok(None)
 }
 
 fn is_written_empty(argument: &Argument<'_>) -> bool

@@ -1,6 +1,6 @@
 //! Hide sets.
 
-ghost use Rattle.std.specs.Prelude.{◌≡◌, ◌≤◌, true, List, [], ◌∷◌, ◌++◌, length, take, drop, option_map, IfOk};
+ghost use Rattle.std.specs.Prelude.{◌≡◌, ◌≤◌, true, List, [], ◌∷◌, ◌++◌, length, take, drop, option_map, IfOk, OnOk};
 ghost use Rattle.std.specs.Bool.{Decides};
 ghost use Rattle.std.specs.List.{filter};
 ghost use Rattle.std.specs.List.Sorted.{IsStrictlySortedBy};
@@ -181,6 +181,15 @@ fn merged<'a>(alloc: Global, a: &[&'a [u8]], b: &[&'a [u8]]) -> Result<Names<'a>
     ensures { IfOk result (λ v. names v.items ≡ sorted_merge by_bytes true (names a.now) (names b.now)) }
 {
     let mut all = SmallVec::new(alloc);
+    merge_into(&mut all, a, b)?;
+    Ok(all)
+}
+
+/// Puts two ascending lists as one into an empty list.
+fn merge_into<'a>(all: &mut Names<'a>, a: &[&'a [u8]], b: &[&'a [u8]]) -> Result<(), AllocError>
+    requires { all.old.items ≡ [] }
+    ensures { OnOk result (names all.new.items ≡ sorted_merge by_bytes true (names a.now) (names b.now)) }
+{
     let mut i = 0;
     let mut j = 0;
     while i < a.len() && j < b.len() {
@@ -202,7 +211,7 @@ fn merged<'a>(alloc: Global, a: &[&'a [u8]], b: &[&'a [u8]]) -> Result<Names<'a>
     }
     all.extend_from_slice(a.split_at(i).1)?;
     all.extend_from_slice(b.split_at(j).1)?;
-    Ok(all)
+    Ok(())
 }
 
 /// What two ascending lists share.

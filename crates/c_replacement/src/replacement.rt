@@ -1,37 +1,42 @@
 //! Macro replacement, argument by argument and token by token.
 
-ghost use Rattle.std.specs.Prelude.{◌≡◌, ℕ, ◌+◌, ◌-◌, ◌*◌, ◌≤◌, ◌<◌, ◌++◌, IfOk, OnOk, MatchBool, vec_len, map, reverse, take, drop, length, List};
+ghost use Rattle.std.specs.Prelude.{◌≡◌, ℕ, ◌+◌, ◌-◌, ◌*◌, ◌≤◌, ◌<◌, ◌++◌, IfOk, OnOk, MatchBool, vec_len, map, reverse, take, drop, length, List, [], ◌∷◌};
 ghost use Rattle.fc_base.specs.declared.Fault.TheVariants.{Refused};
 ghost use Rattle.c_tokens.specs.Tokens.{token_limit};
 ghost use Rattle.fc_base.specs.Answers.{Answers};
+ghost use Rattle.c_expansion.specs.Macros.{token};
+ghost use Rattle.c_expansion.specs.Turns.{union};
 ghost use Rattle.c_expansion.specs.Replacement.{Outcome, replacing, hidden, argument_text, Expands, Substitutes, Readies};
 ghost use Rattle.c_replacement.specs.HideSets.{held};
 ghost use Rattle.c_replacement.specs.Views.{view, views, left, table, argument_view, argument_views, piece_views};
 ghost use Rattle.c_replacement.specs.Turning.{text_of, AddsAs, StaysAs, GivesAs};
 
 use crate::hide::{HideSet, Hides};
-use crate::items::{Argument, Item, Macros, NESTING_LIMIT, Piece};
+use crate::items::{Argument, Arguments, Item, Macros, NESTING_LIMIT, Piece};
 use crate::turns::{Turn, meaning_of, turn_of};
 use c_tokens::{TOKEN_LIMIT, Token, TokenKind};
-use fc_base::{Fault, Place, Refusal, Rule};
+use fc_base::{Fault, NoMemory, Place, Refusal, Rule};
 use std::alloc::{AllocError, Global};
 use std::mem;
 
-fn replacing<'a>(
+/// Puts a token of a replacement list behind the others.
+fn push_replacing<'a>(
+    new: &mut Vec<Item<'a>>,
     place: Place,
     hide: &HideSet<'a>,
     kind: &'a TokenKind,
     spaced: bool,
-) -> Result<Item<'a>, AllocError>
-    ensures { IfOk result (λ x. view x ≡ replacing place (held hide.now) kind.now spaced) }
+) -> Result<(), AllocError>
+    ensures { OnOk result (views new.new.items ≡ views new.old.items ++ replacing place (held hide.now) kind.now spaced ∷ []) }
 {
-    Ok(Item {
+    new.push(Item {
         kind,
         place,
         starts_line: false,
         spaced,
         hide: hide.copied()?,
-    })
+    })?;
+    Ok(())
 }
 
 /// The item with another hide set.
@@ -56,7 +61,7 @@ fn text<'m, 'a>(argument: &'m Argument<'a>) -> &'m [Item<'a>]
     }
 }
 
-/// Puts the tokens of an argument behind the others. Most of them have the hide set of the call, or that of the last one.
+/// Puts the tokens of an argument behind the others.
 fn push_hidden<'a>(
     alloc: Global,
     new: &mut Vec<Item<'a>>,
@@ -67,12 +72,52 @@ fn push_hidden<'a>(
 {
     let mut own = hides.old.copied()?;
     let mut both = hides.new.copied()?;
+    push_joined(alloc, new, hides, &mut own, &mut both, tokens)
+}
+
+/// Puts another value into the place, and lets go of the one that stood there.
+fn set<T: Drop>(place: &mut T, value: T)
+    ensures { place.new ≡ value }
+{
+    *place = value;
+}
+
+/// Turns to the hide set of a token, where `own` is that of the token before it and `both` the one that it got.
+fn follow<'a>(
+    alloc: Global,
+    hides: &Hides<'a>,
+    hide: &HideSet<'a>,
+    own: &mut HideSet<'a>,
+    both: &mut HideSet<'a>,
+) -> Result<(), AllocError>
+    requires { held both.old ≡ union (held own.old) (held hides.now.new) }
+    ensures own { OnOk result (own.new ≡ hide.now) }
+    ensures both { OnOk result (held both.new ≡ union (held hide.now) (held hides.now.new)) }
+{
+    if hide.is_same(own) {
+        return Ok(());
+    }
+    set(own, hide.copied()?);
+    set(both, own.union(alloc, &hides.new)?);
+    Ok(())
+}
+
+/// Puts tokens behind the others, where one with the hide set `own` gets `both`. Most of them have the hide set of the
+/// call, or that of the last one.
+fn push_joined<'a>(
+    alloc: Global,
+    new: &mut Vec<Item<'a>>,
+    hides: &Hides<'a>,
+    own: &mut HideSet<'a>,
+    both: &mut HideSet<'a>,
+    tokens: &[Item<'a>],
+) -> Result<(), AllocError>
+    requires { held both.old ≡ union (held own.old) (held hides.now.new) }
+    ensures { OnOk result (views new.new.items ≡ views new.old.items ++ map (hidden (held hides.now.new)) (views tokens.now)) }
+{
     for item in tokens {
-        if !item.hide.is_same(&own) {
-            own = item.hide.copied()?;
-            both = own.union(alloc, &hides.new)?;
-        }
-        new.push(with_hide(item, &both)?)?;
+        follow(alloc, hides, &item.hide, own, both)?;
+        new.push(with_hide(item, both)?)?;
     }
     Ok(())
 }
@@ -128,7 +173,7 @@ fn substitute<'a>(
     let mut count = from;
     for piece in body {
         match *piece {
-            Piece::Plain(kind, spaced) => new.push(replacing(place, &hides.new, kind, spaced)?)?,
+            Piece::Plain(kind, spaced) => push_replacing(new, place, &hides.new, kind, spaced)?,
             Piece::Parameter(k) => {
                 if k < args.len() {
                     count = make_ready(alloc, macros, args, k, depth, count)?;
@@ -138,6 +183,37 @@ fn substitute<'a>(
         }
     }
     Ok(count)
+}
+
+/// Puts what replaces a name or a call behind the other tokens.
+#[cycle(replacement)]
+fn put<'a>(
+    alloc: Global,
+    macros: &Macros<'a>,
+    place: Place,
+    hides: Hides<'a>,
+    mut args: Arguments<'a>,
+    body: &[Piece<'a>],
+    depth: u32,
+    from: u64,
+    new: &mut Vec<Item<'a>>,
+) -> Result<u64, Fault>
+    requires deep { 0 < length args.items → depth < NESTING_LIMIT }
+    ensures outcome { GivesAs result new.old.items new.new.items
+        (Substitutes (table macros.now) depth from place (held hides.entry.new) (argument_views args.entry.items) (piece_views body.now)) }
+    ensures counts { IfOk result (λ c. from ≤ c) }
+{
+    substitute(
+        alloc,
+        macros,
+        place,
+        &hides,
+        args.as_mut_slice(),
+        body,
+        depth,
+        from,
+        new,
+    )
 }
 
 /// Reverses the list from there on.
@@ -169,22 +245,10 @@ fn stays<'a>(
     match turn_of(alloc, meaning, depth, item, pending)? {
         Turn::Stays => Ok(true),
         Turn::BadCall => refuse(Rule::MacroArguments, item.place),
-        Turn::Becomes {
-            body,
-            hides,
-            mut args,
-        } => {
+        Turn::Becomes { body, hides, args } => {
             let start = pending.len();
-            let now = substitute(
-                alloc,
-                macros,
-                item.place,
-                &hides,
-                args.as_mut_slice(),
-                body,
-                depth,
-                *count,
-                pending,
+            let now = put(
+                alloc, macros, item.place, hides, args, body, depth, *count, pending,
             )?;
             let len = (pending.len() - start) as u64;
             if passes_limit(now, len) {
@@ -195,6 +259,30 @@ fn stays<'a>(
             Ok(false)
         }
     }
+}
+
+/// Expands the list whose next token is the last of `pending`, and puts the result into the empty list `done`.
+#[cycle(replacement)]
+fn expand_into<'a>(
+    alloc: Global,
+    macros: &Macros<'a>,
+    pending: &mut Vec<Item<'a>>,
+    done: &mut Vec<Item<'a>>,
+    depth: u32,
+    from: u64,
+) -> Result<u64, Fault>
+    requires deep { depth ≤ NESTING_LIMIT }
+    requires empty { done.old.items ≡ [] }
+    ensures outcome { Answers (λ c. (views done.new.items, c)) result (Expands (table macros.now) depth from (left pending.old.items)) }
+    ensures counts { IfOk result (λ c. from ≤ c) }
+{
+    let mut count = from;
+    while let Some(item) = pending.pop() {
+        if stays(alloc, macros, depth, &item, pending, &mut count)? {
+            done.push(item)?;
+        }
+    }
+    Ok(count)
 }
 
 /// Expands the list whose next token is the last of `pending`.
@@ -210,13 +298,8 @@ fn run<'a>(
     ensures outcome { Answers (λ r. (views r.0.items, r.1)) result (Expands (table macros.now) depth from (left pending.entry.items)) }
     ensures counts { IfOk result (λ r. from ≤ r.1) }
 {
-    let mut count = from;
     let mut done = Vec::new(alloc);
-    while let Some(item) = pending.pop() {
-        if stays(alloc, macros, depth, &item, &mut pending, &mut count)? {
-            done.push(item)?;
-        }
-    }
+    let count = expand_into(alloc, macros, &mut pending, &mut done, depth, from)?;
     Ok((done, count))
 }
 
@@ -251,6 +334,33 @@ pub fn replace<'a>(
     run(alloc, macros, tokens, 0, count)
 }
 
+/// Puts a token behind those that are done.
+fn push_token(alloc: Global, item: &Item<'_>, done: &mut Vec<Token>) -> Result<(), NoMemory>
+    ensures { OnOk result (done.new.items ≡ done.old.items ++ token (view item.now) ∷ []) }
+{
+    done.push(item.token(alloc)?)?;
+    Ok(())
+}
+
+/// Puts what is left, with its macros replaced, behind the tokens that are done.
+fn append_left<'a>(
+    alloc: Global,
+    macros: &Macros<'a>,
+    pending: &mut Vec<Item<'a>>,
+    from: u64,
+    done: &mut Vec<Token>,
+) -> Result<u64, Fault>
+    ensures { AddsAs result (table macros.now) from (left pending.old.items) done.old.items done.new.items }
+{
+    let mut count = from;
+    while let Some(item) = pending.pop() {
+        if stays(alloc, macros, 0, &item, pending, &mut count)? {
+            push_token(alloc, &item, done)?;
+        }
+    }
+    Ok(count)
+}
+
 /// Puts the tokens of the list, with its macros replaced, behind those that are done, and gives the count of tokens after
 /// it. After a fault some of them may stand there already.
 pub fn append_replaced<'a>(
@@ -262,12 +372,6 @@ pub fn append_replaced<'a>(
 ) -> Result<u64, Fault>
     ensures { AddsAs result (table macros.now) from (views tokens.entry.items) done.old.items done.new.items }
 {
-    let mut count = from;
     tokens.reverse();
-    while let Some(item) = tokens.pop() {
-        if stays(alloc, macros, 0, &item, &mut tokens, &mut count)? {
-            done.push(item.token(alloc)?)?;
-        }
-    }
-    Ok(count)
+    append_left(alloc, macros, &mut tokens, from, done)
 }

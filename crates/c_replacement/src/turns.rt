@@ -1,12 +1,13 @@
 //! What a token does: it stays, or it and the arguments after it are replaced.
 
-ghost use Rattle.std.specs.Prelude.{◌≡◌, ℕ, ◌≤◌, ◌<◌, ◌+◌, IfOk, option_map, vec_len, drop, true, Some};
-ghost use Rattle.c_expansion.specs.Turns.{meaning_of, opens_next, called_with, call, by_meaning};
+ghost use Rattle.std.specs.Prelude.{◌≡◌, ℕ, ◌≤◌, ◌<◌, ◌+◌, IfOk, MatchBool, option_map, vec_len, drop, true, Some, Ok};
+ghost use Rattle.c_expansion.specs.Turns.{intersection, with_name, meaning_of, opens_next, called_with, call, by_meaning};
+ghost use Rattle.c_replacement.specs.HideSets.{held};
 ghost use Rattle.c_replacement.specs.Views.{left, view, meaning_view, piece_views, table, macro_at};
 ghost use Rattle.c_replacement.specs.Turning.{TurnsAs, IsWithin};
 
 use crate::calls::{gather, right_number};
-use crate::hide::Hides;
+use crate::hide::{HideSet, Hides};
 use crate::items::{Arguments, Item, Macro, Macros, NESTING_LIMIT, Piece};
 use c_tokens::{Punct, TokenKind};
 use smallvec::SmallVec;
@@ -54,6 +55,42 @@ fn opens_next(pending: &[Item<'_>]) -> bool
     }
 }
 
+/// The hide sets of a name that is replaced alone.
+fn hides_of_name<'a>(alloc: Global, name: &Item<'a>) -> Result<Hides<'a>, AllocError>
+    ensures { IfOk result (λ h. held h.new ≡ with_name name.now.kind.now (held name.now.hide)) }
+{
+    Hides::of(alloc, name.hide.copied()?, name.kind)
+}
+
+/// The hide sets of a call, by its name and the hide set of its closing bracket.
+fn hides_of_call<'a>(
+    alloc: Global,
+    name: &Item<'a>,
+    close: &HideSet<'a>,
+) -> Result<Hides<'a>, AllocError>
+    ensures { IfOk result (λ h. held h.new ≡ with_name name.now.kind.now (intersection (held name.now.hide) (held close.now))) }
+{
+    let hide = name.hide.intersection(alloc, close)?;
+    Hides::of(alloc, hide, name.kind)
+}
+
+/// Arguments would be expanded too deep.
+fn is_too_deep(depth: u32) -> bool
+    ensures { MatchBool result (NESTING_LIMIT ≤ depth) (depth < NESTING_LIMIT) }
+{
+    depth >= NESTING_LIMIT
+}
+
+/// Both parts, if the second was made.
+fn both<A: Drop, B>(first: A, second: Result<B, AllocError>) -> Result<(A, B), AllocError>
+    ensures { IfOk result (λ x. (x.0 ≡ first) × (second ≡ Ok x.1)) }
+{
+    match second {
+        Ok(second) => Ok((first, second)),
+        Err(fault) => Err(fault),
+    }
+}
+
 /// A call, at its opening bracket.
 fn called<'m, 'a>(
     alloc: Global,
@@ -67,17 +104,19 @@ fn called<'m, 'a>(
         (called_with (view item.now) n (piece_views body.now) (call 0 (drop 1 (left pending.old.items))))) }
     ensures shorter { vec_len pending.new + 1 ≤ vec_len pending.old }
 {
-    pending.pop();
-    match gather(alloc, pending)? {
+    drop(pending.pop());
+    let Some(call) = gather(alloc, pending)? else {
+        return Ok(Turn::BadCall);
+    };
+    let is_right = right_number(n, &call.args);
+    match is_right.then_some(call) {
         None => Ok(Turn::BadCall),
         Some(call) => {
-            if !right_number(n, &call.args) {
-                return Ok(Turn::BadCall);
-            }
-            let hide = item.hide.intersection(alloc, &call.close)?;
+            let hides = hides_of_call(alloc, item, &call.close);
+            let (call, hides) = both(call, hides)?;
             Ok(Turn::Becomes {
                 body,
-                hides: Hides::of(alloc, hide, item.kind)?,
+                hides,
                 args: call.args,
             })
         }
@@ -100,14 +139,14 @@ pub fn turn_of<'m, 'a>(
     match &meaning.parameters {
         None => Ok(Turn::Becomes {
             body: &meaning.body,
-            hides: Hides::of(alloc, item.hide.copied()?, item.kind)?,
+            hides: hides_of_name(alloc, item)?,
             args: SmallVec::new(alloc),
         }),
         Some(parameters) => {
             if !opens_next(pending) {
                 return Ok(Turn::Stays);
             }
-            if depth >= NESTING_LIMIT {
+            if is_too_deep(depth) {
                 return Ok(Turn::BadCall);
             }
             called(alloc, item, parameters.len(), &meaning.body, pending)

@@ -14,12 +14,12 @@ returns-in_err-items-2 c =
 
 pub returns-in-Some-2 : goal.returns-in-Some-2
 returns-in-Some-2 c =
-    let d = rw (c.in-Some-2.is, c.deref-2.ensures.value, c.in_ok-kinds.ensures, c.deref.ensures.value) at c.in_ok-holds.ensures.decides in
+    let d = rw (c.in-Some-2.is, c.deref.ensures.value) at c.in_ok-holds.ensures in
     held (table c.args.macros.now) c.args.count c.args.place c.args.line.now (views c.in-Some.items.items) (rw c.in-Some.is at c.in_ok-items.ensures)
     (views c.in_ok-items-2.items.items) c.in_ok-items-2.count c.in-Some-2.holds c.in_ok-items-2.ensures.is d
 
 pub returns : goal.returns
 returns c =
-    let d = rw (c.in-None.is, c.deref-2.ensures.value, c.in_ok-kinds.ensures, c.deref.ensures.value) at c.in_ok-holds.ensures.decides in
+    let d = rw (c.in-None.is, c.deref.ensures.value) at c.in_ok-holds.ensures in
     undecided (table c.args.macros.now) c.args.count c.args.place c.args.line.now (views c.in-Some.items.items) (rw c.in-Some.is at c.in_ok-items.ensures)
     (views c.in_ok-items-2.items.items) c.in_ok-items-2.count c.refuse-in-None.result c.in_ok-items-2.ensures.is d c.refuse-in-None.ensures

@@ -5,7 +5,7 @@ use Rattle.c_expansion.proofs.OriginLaws.{spelled_answer}
 use Rattle.c_macros.proofs.expansion.expand.Goals as goal
 
 pub returns-clause-only : goal.returns-clause-only
-returns-clause-only c = only_expanded (start c.args.level) (length c.args.tokens.now) c.args.tokens.now _ c.run.result c.run.ensures
+returns-clause-only c = only_expanded (start c.args.level) (length c.args.tokens.now) c.args.tokens.now _ c.run-list.result c.run-list.ensures
 
 pub returns-clause-kinds : goal.returns-clause-kinds
-returns-clause-kinds c = λ h. spelled_answer c.args.level c.args.tokens.now (λ v. v.items) c.run.result c.run.ensures h
+returns-clause-kinds c = λ h. spelled_answer c.args.level c.args.tokens.now (λ v. v.items) c.run-list.result c.run-list.ensures h

@@ -10,7 +10,7 @@ use Rattle.c_replacement.specs.Views.{view, views}
 use Rattle.c_replacement.proofs.Gathering.{left_pop, left_none}
 use Rattle.c_replacement.proofs.Owed.{completes_kept, completes_over, completes_refused, call_refused, count_refused, argument_refused, it_becomes, adds_plain, adds_parameter, finishes_whole, parameter_refused}
 use Rattle.c_replacement.proofs.Arguments.{is_absent, is_again, is_expanded, is_refused, text_at, text_absent, dropped, put_back, put_count}
-use Rattle.c_replacement.proofs.replacement.+replacement.Goals.{substitute-in-Plain+in_ok-replacing-in-Plain+in_ok-push-in-Plain, substitute-in-Parameter+then-k-args+in_ok-count-in-Parameter+in_ok-push_hidden-in-Parameter, substitute-in-Parameter+else-k-args}
+use Rattle.c_replacement.proofs.replacement.+replacement.Goals.{substitute-in-Plain+in_ok-push_replacing-in-Plain, substitute-in-Parameter+then-k-args+in_ok-count-in-Parameter+in_ok-push_hidden-in-Parameter, substitute-in-Parameter+else-k-args}
 use Rattle.c_replacement.proofs.replacement.+replacement.Goals as goal
 
 pub make_ready-returns-in-Expanded-clause-outcome : goal.make_ready-returns-in-Expanded-clause-outcome
@@ -28,6 +28,9 @@ make_ready-returns-in_err-tokens-in-Written-clause-outcome t c =
     rw (p.1, p.2) (is_refused c.in_err-tokens-in-Written.field-0.0 _ _ _ c.args.args.now c.args.k _ c.in-Written.tokens c.reverse.new.self c.requires.index c.index-args-k.is
     (c.in-Written.ensures.value ∙ sym c.index-args-k.is) c.reverse.ensures.items c.in_err-tokens-in-Written.ensures.outcome)
 
+pub put-returns-clause-outcome : goal.put-returns-clause-outcome
+put-returns-clause-outcome t c = let m = rw c.as_mut_slice.ensures.value at c.substitute.ensures.outcome in m
+
 pub stays-returns-in-BadCall-clause-outcome : goal.stays-returns-in-BadCall-clause-outcome
 stays-returns-in-BadCall-clause-outcome t c =
     let f = rw c.in-BadCall.is at c.in_ok-turn_of.ensures.found in
@@ -37,41 +40,41 @@ pub stays-returns-in_err-now-in-Becomes-clause-outcome : goal.stays-returns-in_e
 stays-returns-in_err-now-in-Becomes-clause-outcome t c =
     let p = err_from_is_err_and c.from_residual-in_err-now-in-Becomes.result c.from_residual-in_err-now-in-Becomes.ensures.1 in
     let f = rw c.in-Becomes.is at c.in_ok-turn_of.ensures.found in
-    let m = rw c.as_mut_slice.ensures.value at c.in_err-now-in-Becomes.ensures.outcome in
+    let m = c.in_err-now-in-Becomes.ensures.outcome in
     rw (p.1, p.2) (argument_refused _ _ _ (view c.args.item.now) _ _ c.in-Some.ensures _ _ _ _ f c.in_err-now-in-Becomes.field-0.0 m)
 
 pub stays-returns-then-passes_limit-clause-outcome : goal.stays-returns-then-passes_limit-clause-outcome
 stays-returns-then-passes_limit-clause-outcome t c =
     let f = rw c.in-Becomes.is at c.in_ok-turn_of.ensures.found in
-    let m = rw c.as_mut_slice.ensures.value at c.in_ok-now-in-Becomes.ensures.outcome in
-    let n = put_count c.turn_of.new.pending.items c.substitute.new.new.items m.0 c.len-start.result (omega arith) m.1 c.len.result (omega arith) in
+    let m = c.in_ok-now-in-Becomes.ensures.outcome in
+    let n = put_count c.turn_of.new.pending.items c.put.new.new.items m.0 c.len-start.result (omega arith) m.1 c.len.result (omega arith) in
     rw c.refuse-then-passes_limit.ensures (count_refused _ _ _ (view c.args.item.now) _ _ c.in-Some.ensures _ _ _ _ f m.0 c.in_ok-now-in-Becomes.now m.2 (omega (arith, n, c.if-passes_limit.ensures)))
 
 pub stays-returns-else-passes_limit-clause-outcome : goal.stays-returns-else-passes_limit-clause-outcome
 stays-returns-else-passes_limit-clause-outcome t c =
     let f = rw c.in-Becomes.is at c.in_ok-turn_of.ensures.found in
-    let m = rw c.as_mut_slice.ensures.value at c.in_ok-now-in-Becomes.ensures.outcome in
+    let m = c.in_ok-now-in-Becomes.ensures.outcome in
     let start : c.len-start.result ≡ length c.turn_of.new.pending.items = omega arith in
-    let n = put_count c.turn_of.new.pending.items c.substitute.new.new.items m.0 c.len-start.result start m.1 c.len.result (omega arith) in
-    let back = put_back c.turn_of.new.pending.items c.substitute.new.new.items m.0 c.len-start.result start m.1 c.reverse_from.new.list.items c.reverse_from.ensures in
+    let n = put_count c.turn_of.new.pending.items c.put.new.new.items m.0 c.len-start.result start m.1 c.len.result (omega arith) in
+    let back = put_back c.turn_of.new.pending.items c.put.new.new.items m.0 c.len-start.result start m.1 c.reverse_from.new.list.items c.reverse_from.ensures in
     rw (n, back) (it_becomes _ _ _ (view c.args.item.now) _ _ c.in-Some.ensures _ _ _ _ f m.0 c.in_ok-now-in-Becomes.now m.2 (omega (arith, n, c.if-passes_limit.ensures)))
 
-pub run-loop-item-preserved-in-Continue-branch-2 : goal.run-loop-item-preserved-in-Continue-branch-2
-run-loop-item-preserved-in-Continue-branch-2 t c =
+pub expand_into-loop-item-preserved-in-Continue-branch-2 : goal.expand_into-loop-item-preserved-in-Continue-branch-2
+expand_into-loop-item-preserved-in-Continue-branch-2 t c =
     let s = rw c.if-branch.true at c.in_ok-stays.ensures.outcome in
     let o = rw (left_pop c.loop-item.pending.items _ c.in-Some.item c.in-Some.ensures.items) at c.loop-item.invariant.owed in record {
       from = omega (arith, c.in_ok-stays.ensures.counts);
       owed = rw (c.in_ok-push.ensures.items, map_push, s.1, s.2) (completes_kept _ _ _ _ _ _ _ _ s.0 o);
     }
 
-pub run-returns-in_err-stays-clause-outcome : goal.run-returns-in_err-stays-clause-outcome
-run-returns-in_err-stays-clause-outcome t c =
+pub expand_into-returns-in_err-stays-clause-outcome : goal.expand_into-returns-in_err-stays-clause-outcome
+expand_into-returns-in_err-stays-clause-outcome t c =
     let p = err_from_is_err_and c.from_residual.result c.from_residual.ensures.1 in
     let o = rw (left_pop c.loop-item.pending.items _ c.in-Some.item c.in-Some.ensures.items) at c.loop-item.invariant.owed in
     rw (p.1, p.2) (completes_refused _ _ _ _ _ _ c.in_err-stays.field-0.0 _ c.in_err-stays.ensures.outcome o)
 
-pub run-returns-clause-outcome : goal.run-returns-clause-outcome
-run-returns-clause-outcome t c =
+pub expand_into-returns-clause-outcome : goal.expand_into-returns-clause-outcome
+expand_into-returns-clause-outcome t c =
     let e = rw c.in_default.is at c.pop.ensures.cases in
     let o = rw (left_none c.loop-item.pending.items (omega arith)) at c.loop-item.invariant.owed in
     completes_over _ _ _ _ _ _ o
@@ -79,11 +82,11 @@ run-returns-clause-outcome t c =
 pub substitute-loop-piece-preserved : goal.substitute-loop-piece-preserved
 substitute-loop-piece-preserved t c =
     elim c.match-piece.branch [
-      | substitute-in-Plain+in_ok-replacing-in-Plain+in_ok-push-in-Plain w ↦
+      | substitute-in-Plain+in_ok-push_replacing-in-Plain w ↦
           let o = rw (dropped c.args.body.now c.loop-piece.piece-index c.piece-item.result (Plain w.in-Plain.kind w.in-Plain.spaced) (omega arith) (sym c.piece-item.is ∙ w.in-Plain.is)) at c.loop-piece.invariant.owed in record {
             deep = rw w.args-is c.loop-piece.invariant.deep;
             from = rw w.count-is c.loop-piece.invariant.from;
-            owed = rw (w.new-is, w.args-is, w.count-is, w.in_ok-push-in-Plain.ensures.items) (adds_plain _ _ _ _ _ _ _ _ _ _ _ w.in-Plain.kind.now w.in-Plain.spaced _ w.in_ok-replacing-in-Plain.field-0 w.in_ok-replacing-in-Plain.ensures o);
+            owed = rw (w.new-is, w.args-is, w.count-is) (adds_plain _ _ _ _ _ _ _ _ _ _ _ w.in-Plain.kind.now w.in-Plain.spaced _ _ w.in_ok-push_replacing-in-Plain.ensures o);
           }
       | substitute-in-Parameter+then-k-args+in_ok-count-in-Parameter+in_ok-push_hidden-in-Parameter w ↦
           let o = rw (dropped c.args.body.now c.loop-piece.piece-index c.piece-item.result (Parameter w.in-Parameter.k) (omega arith) (sym c.piece-item.is ∙ w.in-Parameter.is)) at c.loop-piece.invariant.owed in

@@ -7,25 +7,31 @@ use Rattle.c_replacement.proofs.Owed.{Completes, Adds}
 use Rattle.c_replacement.proofs.replacement.+replacement.Given as goal
 
 abbrev pub decreases-make_ready : goal.decreases-make_ready
-decreases-make_ready l = 4 * (NESTING_LIMIT - l.depth)
+decreases-make_ready l = 6 * (NESTING_LIMIT - l.depth)
 
 abbrev pub decreases-substitute : goal.decreases-substitute
-decreases-substitute l = 4 * (NESTING_LIMIT - l.depth) + 1
+decreases-substitute l = 6 * (NESTING_LIMIT - l.depth) + 1
+
+abbrev pub decreases-put : goal.decreases-put
+decreases-put l = 6 * (NESTING_LIMIT - l.depth) + 2
 
 abbrev pub decreases-stays : goal.decreases-stays
-decreases-stays l = 4 * (NESTING_LIMIT - l.depth) + 2
+decreases-stays l = 6 * (NESTING_LIMIT - l.depth) + 3
+
+abbrev pub decreases-expand_into : goal.decreases-expand_into
+decreases-expand_into l = 6 * (NESTING_LIMIT - l.depth) + 4
 
 abbrev pub decreases-run : goal.decreases-run
-decreases-run l = 4 * (NESTING_LIMIT - l.depth) + 3
+decreases-run l = 6 * (NESTING_LIMIT - l.depth) + 5
 
-abbrev pub invariant-run-loop-item : goal.invariant-run-loop-item
-invariant-run-loop-item l = record {
+abbrev pub invariant-expand_into-loop-item : goal.invariant-expand_into-loop-item
+invariant-expand_into-loop-item l = record {
   from : l.from ≤ l.count;
-  owed : Completes (table l.macros) l.depth l.from (left l.fn.pending.items) (views l.done.items) l.count (left l.pending.items);
+  owed : Completes (table l.macros) l.depth l.from (left l.initial.pending.items) (views l.done.items) l.count (left l.pending.items);
 }
 
-abbrev pub decreases-run-loop-item : goal.decreases-run-loop-item
-decreases-run-loop-item l = 2 * (token_limit - l.count) + vec_len l.pending
+abbrev pub decreases-expand_into-loop-item : goal.decreases-expand_into-loop-item
+decreases-expand_into-loop-item l = 2 * (token_limit - l.count) + vec_len l.pending
 
 abbrev pub invariant-substitute-loop-piece : goal.invariant-substitute-loop-piece
 invariant-substitute-loop-piece l = record {

@@ -2,7 +2,7 @@ use Rattle.std.proofs.Common.{◌≡◌, ◌+◌, ◌≤◌, vec_len}
 use Rattle.c_expansion.specs.Turns.{call}
 use Rattle.c_replacement.specs.Views.{argument_views, views, left}
 use Rattle.c_replacement.proofs.Gathering.{seen, whole}
-use Rattle.c_replacement.proofs.calls.gather.Given as goal
+use Rattle.c_replacement.proofs.calls.take_call.Given as goal
 
 abbrev pub invariant-loop-item : goal.invariant-loop-item
 invariant-loop-item l = record {

@@ -1,8 +1,8 @@
 use Rattle.std.proofs.Common.{◌≡◌, ℕ, List, ◌++◌, drop, ap, ◌∙◌}
 use Rattle.std.specs.Borrow.{Bor}
 use Rattle.c_replacement.proofs.Merging.{first_over, second_over}
-use Rattle.c_replacement.proofs.hide.merged.Goals.{then-loop-i-test+else-j-b, else-loop-i-test}
-use Rattle.c_replacement.proofs.hide.merged.Goals as goal
+use Rattle.c_replacement.proofs.hide.merge_into.Goals.{then-loop-i-test+else-j-b, else-loop-i-test}
+use Rattle.c_replacement.proofs.hide.merge_into.Goals as goal
 
 pub returns : goal.returns
 returns c =

@@ -2,10 +2,10 @@ use Rattle.std.proofs.Common.{◌+◌, ◌-◌, ◌*◌, vec_len}
 use Rattle.c_tokens.specs.Tokens.{token_limit}
 use Rattle.c_replacement.specs.Views.{left, table}
 use Rattle.c_replacement.proofs.Owed.{Wrote}
-use Rattle.c_replacement.proofs.replacement.append_replaced.Given as goal
+use Rattle.c_replacement.proofs.replacement.append_left.Given as goal
 
 abbrev pub invariant-loop-item : goal.invariant-loop-item
-invariant-loop-item l = Wrote (table l.macros) l.from (left l.initial.tokens.items) l.initial.done.items l.done.items l.count (left l.tokens.items)
+invariant-loop-item l = Wrote (table l.macros) l.from (left l.initial.pending.items) l.initial.done.items l.done.items l.count (left l.pending.items)
 
 abbrev pub decreases-loop-item : goal.decreases-loop-item
-decreases-loop-item l = 2 * (token_limit - l.count) + vec_len l.tokens
+decreases-loop-item l = 2 * (token_limit - l.count) + vec_len l.pending

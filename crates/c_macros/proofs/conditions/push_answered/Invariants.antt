@@ -3,7 +3,7 @@ use Rattle.c_expansion.specs.Macros.{items}
 use Rattle.c_expansion.specs.Moves.{with_answers}
 use Rattle.c_replacement.specs.Views.{table, views}
 use Rattle.c_macros.proofs.Asking.{behind}
-use Rattle.c_macros.proofs.conditions.with_answers.Given as goal
+use Rattle.c_macros.proofs.conditions.push_answered.Given as goal
 
 abbrev pub invariant-loop-at : goal.invariant-loop-at
 invariant-loop-at l = record {

@@ -2,7 +2,7 @@ use Rattle.std.proofs.Common.{◌+◌, length, ◌∙◌, ap, sym, arith, length
 use Rattle.std.proofs.lemmas.List.{map_push}
 use Rattle.c_replacement.specs.Views.{table, views}
 use Rattle.c_macros.proofs.Asking.{no_answer, one_answer, one_token, all_answered}
-use Rattle.c_macros.proofs.conditions.with_answers.Goals as goal
+use Rattle.c_macros.proofs.conditions.push_answered.Goals as goal
 
 pub returns-in_default : goal.returns-in_default
 returns-in_default c =

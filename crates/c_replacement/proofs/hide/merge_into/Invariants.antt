@@ -1,7 +1,7 @@
 use Rattle.std.proofs.Common.{true, ◌≡◌, ◌+◌, ◌-◌, ◌≤◌, ◌++◌, length, drop}
 use Rattle.std.specs.Set.{sorted_merge}
 use Rattle.c_replacement.specs.HideSets.{names, by_bytes}
-use Rattle.c_replacement.proofs.hide.merged.Given as goal
+use Rattle.c_replacement.proofs.hide.merge_into.Given as goal
 
 abbrev pub invariant-loop-i : goal.invariant-loop-i
 invariant-loop-i l = record {
