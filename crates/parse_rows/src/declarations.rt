@@ -1,6 +1,6 @@
 //! Rows of declarations, with the trees that C11 6.7 gives them, and the refusals at their places.
 
-use crate::sources::{assert_joined, assert_shown};
+use crate::sources::{assert_joined, assert_rows};
 use std::test::Fail;
 
 /// C11 6.7.6
@@ -227,11 +227,10 @@ const INITIALISERS: &[(&str, &str)] = &[
 #[test]
 fn trees_of_declarations(rt: HostRuntime) -> Result<(), Fail> {
     let alloc = rt.alloc();
-    for table in [DECLARATORS, SPECIFIERS, ATTRIBUTES, INITIALISERS] {
-        for &(text, tree) in table {
-            assert_shown(&rt, alloc, text, tree)?;
-        }
-    }
+    assert_rows(&rt, alloc, DECLARATORS)?;
+    assert_rows(&rt, alloc, SPECIFIERS)?;
+    assert_rows(&rt, alloc, ATTRIBUTES)?;
+    assert_rows(&rt, alloc, INITIALISERS)?;
     Ok(())
 }
 

@@ -1,25 +1,30 @@
 //! Rows of expressions with the trees that C11 6.5 gives them: each level against the next, grouping, the ends of
 //! their spans, and how high they may be. A column is the number of a token.
 
-use crate::sources::{repeated, tokens_of};
+use crate::sources::{assert_same, repeated, tokens_of};
 use c_tokens::Token;
 use c_tree::Expr;
-use fc_base::{NoMemory, Place, Text};
+use fc_base::{Fault, NoMemory, Place, Text};
 use parse_expr::{ExprForm, parse_expression};
 use parse_tokens::{ParseFault, TypeNames};
 use std::alloc::Global;
 use std::process::Abort;
 use std::test::Fail;
-use tree_text::push_expr;
+use tree_text::{Output, push_expr};
 
 /// The names of types in these rows. One that is there already may be added again.
 const TYPE_NAMES: &[&[u8]] = &[b"T", b"U", b"T"];
 
-fn type_names(alloc: Global) -> Result<TypeNames, NoMemory> {
-    let mut names = TypeNames::new(alloc);
+fn push_type_names(alloc: Global, names: &mut TypeNames) -> Result<(), NoMemory> {
     for &name in TYPE_NAMES {
         names.push(Text::from_bytes(alloc, name)?)?;
     }
+    Ok(())
+}
+
+fn type_names(alloc: Global) -> Result<TypeNames, NoMemory> {
+    let mut names = TypeNames::new(alloc);
+    push_type_names(alloc, &mut names)?;
     Ok(names)
 }
 
@@ -33,43 +38,66 @@ fn number(tokens: &mut [Token]) {
 }
 
 /// The tree, and where the span's end is, but for the end of the tokens.
-fn push_found(
-    out: &mut String,
-    found: &Result<(Expr, usize), ParseFault>,
-    count: usize,
-) -> Result<(), NoMemory> {
+fn push_found(out: &mut Output, found: &Result<(Expr, usize), ParseFault>, count: usize) {
     match found {
         Ok((tree, end)) => {
-            push_expr(out, tree, 20)?;
+            push_expr(out, tree, 20);
             if *end < count {
-                write!(out, " to {end}")?;
+                out.push_count(" to ", *end, "");
             }
-            Ok(())
         }
-        Err(ParseFault::NoDerivation) => Ok(out.push_str("none")?),
-        Err(ParseFault::NoMemory) => Ok(out.push_str("no memory")?),
+        Err(ParseFault::NoDerivation) => out.push_str("none"),
+        Err(ParseFault::NoMemory) => out.push_str("no memory"),
     }
 }
 
+fn found_text(
+    alloc: Global,
+    found: &Result<(Expr, usize), ParseFault>,
+    count: usize,
+) -> Result<String, Fault> {
+    let mut out = Output::new(alloc);
+    push_found(&mut out, found, count);
+    Ok(out.finish()?)
+}
+
 /// The expression that the tokens begin with behind so many of them.
-fn push_first(
-    out: &mut String,
+fn parsed(
     alloc: Global,
     tokens: &[Token],
     at: usize,
     form: ExprForm,
-) -> Result<(), NoMemory> {
-    let names = type_names(alloc)?;
-    let found = parse_expression(alloc, tokens, at.min(tokens.len()), form, &names);
-    push_found(out, &found, tokens.len())
+    names: &TypeNames,
+) -> Result<(Expr, usize), ParseFault> {
+    parse_expression(alloc, tokens, at.min(tokens.len()), form, names)
 }
 
-fn shown(alloc: Global, text: &str, at: usize, form: ExprForm) -> Result<String, Fail> {
+fn first(
+    alloc: Global,
+    tokens: &[Token],
+    at: usize,
+    form: ExprForm,
+    names: &TypeNames,
+) -> Result<String, Fault> {
+    let found = parsed(alloc, tokens, at, form, names);
+    found_text(alloc, &found, tokens.len())
+}
+
+/// The same where the names of types are those of these rows.
+fn first_of_rows(
+    alloc: Global,
+    tokens: &[Token],
+    at: usize,
+    form: ExprForm,
+) -> Result<String, Fault> {
+    let names = type_names(alloc)?;
+    first(alloc, tokens, at, form, &names)
+}
+
+fn shown(alloc: Global, text: &str, at: usize, form: ExprForm) -> Result<String, Fault> {
     let mut tokens = tokens_of(alloc, text)?;
     number(&mut tokens);
-    let mut out = String::new(alloc);
-    push_first(&mut out, alloc, &tokens, at, form)?;
-    Ok(out)
+    first_of_rows(alloc, &tokens, at, form)
 }
 
 /// Asserts that this is the expression behind so many tokens.
@@ -80,8 +108,9 @@ fn assert_first(
     at: usize,
     form: ExprForm,
     tree: &str,
-) -> Result<(), Fail> {
-    assert_eq!(rt; shown(alloc, text, at, form)?.as_str(), tree);
+) -> Result<(), Fault> {
+    let got = shown(alloc, text, at, form)?;
+    assert_same(rt, got.as_str(), tree);
     Ok(())
 }
 
@@ -225,19 +254,39 @@ fn spans_of_expressions(rt: HostRuntime) -> Result<(), Fail> {
 }
 
 /// The tree of a name with so many texts before it and behind it.
-fn shown_within(alloc: Global, before: &str, behind: &str, times: u32) -> Result<String, Fail> {
+fn shown_within(alloc: Global, before: &str, behind: &str, times: u32) -> Result<String, Fault> {
     let open = repeated(alloc, "", before, times, "a")?;
     let text = repeated(alloc, open.as_str(), behind, times, "")?;
     shown(alloc, text.as_str(), 0, ExprForm::Full)
+}
+
+/// Asserts that this is that tree.
+fn assert_within(
+    rt: &impl Abort,
+    alloc: Global,
+    before: &str,
+    behind: &str,
+    times: u32,
+    tree: &str,
+) -> Result<(), Fault> {
+    let got = shown_within(alloc, before, behind, times)?;
+    assert_same(rt, got.as_str(), tree);
+    Ok(())
+}
+
+/// Asserts that a sum of so many signs begins so.
+fn assert_sum(rt: &impl Abort, alloc: Global, signs: u32, start: &str) -> Result<(), Fault> {
+    assert!(rt; shown_within(alloc, "", " + a", signs)?.starts_with(start));
+    Ok(())
 }
 
 #[test]
 fn heights_of_expressions(rt: HostRuntime) -> Result<(), Fail> {
     let alloc = rt.alloc();
     // 400 terms group from the left: the root is the last of 399 signs, which is token 798
-    assert!(rt; shown_within(alloc, "", " + a", 399)?.starts_with("(+@798 (+@796 (+@794 "));
-    assert_eq!(rt; shown_within(alloc, "", " + a", 400)?.as_str(), "none");
+    assert_sum(&rt, alloc, 399, "(+@798 (+@796 (+@794 ")?;
+    assert_within(&rt, alloc, "", " + a", 400, "none")?;
     // parentheses make no node
-    assert_eq!(rt; shown_within(alloc, "( ", " )", 1000)?.as_str(), "a");
+    assert_within(&rt, alloc, "( ", " )", 1000, "a")?;
     Ok(())
 }

@@ -1,8 +1,8 @@
 //! Rows of whole files (C11 6.9), and the limits on brackets and on heights.
 
-use crate::sources::{assert_joined, assert_shown, repeated, shown};
+use crate::sources::{assert_joined, assert_rows, assert_shown, repeated, shown};
 use fc_base::NoMemory;
-use std::alloc::Global;
+use std::alloc::{AllocError, Global};
 use std::process::Abort;
 use std::test::Fail;
 
@@ -78,11 +78,7 @@ const LEFT_OUT: &[&str] = &[
 
 #[test]
 fn trees_of_files(rt: HostRuntime) -> Result<(), Fail> {
-    let alloc = rt.alloc();
-    for &(text, tree) in FILES {
-        assert_shown(&rt, alloc, text, tree)?;
-    }
-    Ok(())
+    Ok(assert_rows(&rt, rt.alloc(), FILES)?)
 }
 
 #[test]
@@ -115,17 +111,29 @@ const BRACKETS: &[(&str, u32, &str, &str)] = &[
 ];
 
 /// `0` in so many brackets.
-fn bracketed(alloc: Global, start: &str, times: u32, end: &str) -> Result<String, NoMemory> {
+fn bracketed(alloc: Global, start: &str, times: u32, end: &str) -> Result<String, AllocError> {
     let open = repeated(alloc, start, "(", times, "0")?;
     repeated(alloc, open.as_str(), ")", times, end)
+}
+
+/// Asserts the tree or the refusal of that.
+fn assert_bracketed(
+    rt: &impl Abort,
+    alloc: Global,
+    start: &str,
+    times: u32,
+    end: &str,
+    tree: &str,
+) -> Result<(), NoMemory> {
+    let text = bracketed(alloc, start, times, end)?;
+    assert_shown(rt, alloc, text.as_str(), tree)
 }
 
 #[test]
 fn brackets(rt: HostRuntime) -> Result<(), Fail> {
     let alloc = rt.alloc();
     for &(start, times, end, tree) in BRACKETS {
-        let text = bracketed(alloc, start, times, end)?;
-        assert_shown(&rt, alloc, text.as_str(), tree)?;
+        assert_bracketed(&rt, alloc, start, times, end, tree)?;
     }
     Ok(())
 }
@@ -147,6 +155,12 @@ const HEIGHTS: &[(&str, &str, u32, &str)] = &[
     ("int a", ", a", 1000, ";"),
 ];
 
+/// Asserts that the first declaration is one of an int.
+fn assert_int(rt: &impl Abort, alloc: Global, source: &str) -> Result<(), NoMemory> {
+    assert!(rt; shown(alloc, source)?.starts_with("Int "));
+    Ok(())
+}
+
 /// Asserts that a declaration of an int may have its middle so many times.
 fn assert_high(
     rt: &impl Abort,
@@ -155,10 +169,9 @@ fn assert_high(
     middle: &str,
     times: u32,
     end: &str,
-) -> Result<(), Fail> {
+) -> Result<(), NoMemory> {
     let text = repeated(alloc, start, middle, times, end)?;
-    assert!(rt; shown(alloc, text.as_str())?.starts_with("Int "));
-    Ok(())
+    assert_int(rt, alloc, text.as_str())
 }
 
 /// Asserts that it may not.
@@ -169,7 +182,7 @@ fn assert_too_high(
     middle: &str,
     times: u32,
     end: &str,
-) -> Result<(), Fail> {
+) -> Result<(), NoMemory> {
     let text = repeated(alloc, start, middle, times, end)?;
     assert_shown(rt, alloc, text.as_str(), "Syntax 1:1")
 }
@@ -183,5 +196,6 @@ fn heights(rt: HostRuntime) -> Result<(), Fail> {
             assert_too_high(&rt, alloc, start, middle, most + 1, end)?;
         }
     }
-    assert_too_high(&rt, alloc, "int main(void) { return 0", " + 0", 399, "; }")
+    assert_too_high(&rt, alloc, "int main(void) { return 0", " + 0", 399, "; }")?;
+    Ok(())
 }

@@ -5,10 +5,9 @@ use c_tokens::{HeaderId, Token, TokenKind};
 use c_tree::FileTree;
 use fc_base::{Fault, NoMemory, Place, Refusal};
 use parse_decl::parse;
-use std::alloc::Global;
+use std::alloc::{AllocError, Global};
 use std::process::Abort;
-use std::test::Fail;
-use tree_text::push_file;
+use tree_text::{Output, push_file};
 
 /// The one header of rows, which stands in a text without its `#include`.
 const HEADER: &str = "<stddef.h>";
@@ -22,12 +21,9 @@ pub fn tokens_of(alloc: Global, text: &str) -> Result<Vec<Token>, Fault> {
     }
 }
 
-/// The same, of a text that may begin with the header.
-fn tokens_of_file(alloc: Global, text: &str) -> Result<Vec<Token>, Fault> {
-    let Some(rest) = text.strip_prefix(HEADER) else {
-        return tokens_of(alloc, text);
-    };
-    let mut tokens = tokens_of(alloc, rest)?;
+/// The tokens behind the header.
+fn behind_header(tokens: Vec<Token>) -> Result<Vec<Token>, Fault> {
+    let mut tokens = tokens;
     tokens.insert(
         0,
         Token {
@@ -40,42 +36,72 @@ fn tokens_of_file(alloc: Global, text: &str) -> Result<Vec<Token>, Fault> {
     Ok(tokens)
 }
 
+/// The tokens of a text that may begin with the header.
+fn tokens_of_file(alloc: Global, text: &str) -> Result<Vec<Token>, Fault> {
+    match text.strip_prefix(HEADER) {
+        Some(rest) => behind_header(tokens_of(alloc, rest)?),
+        None => tokens_of(alloc, text),
+    }
+}
+
 fn read(alloc: Global, text: &str) -> Result<FileTree, Fault> {
     let tokens = tokens_of_file(alloc, text)?;
     parse(alloc, &tokens)
 }
 
-fn push_outcome(out: &mut String, outcome: &Result<FileTree, Fault>) -> Result<(), NoMemory> {
-    match outcome {
-        Ok(file) => push_file(out, file),
-        Err(Fault::Refused(Refusal { rule, place })) => {
-            Ok(write!(out, "{rule:?} {}:{}", place.line, place.col)?)
-        }
-        Err(Fault::NoMemory) => Ok(out.push_str("no memory")?),
-    }
+fn file_text(alloc: Global, file: &FileTree) -> Result<String, NoMemory> {
+    let mut out = Output::new(alloc);
+    push_file(&mut out, file);
+    out.finish()
+}
+
+fn refusal_text(alloc: Global, refusal: Refusal) -> Result<String, NoMemory> {
+    let Refusal { rule, place } = refusal;
+    Ok(format!(in alloc; "{rule:?} {}:{}", place.line, place.col)?)
 }
 
 /// The tree, or the rule and its place.
 pub fn shown(alloc: Global, text: &str) -> Result<String, NoMemory> {
-    let mut out = String::new(alloc);
-    let pushed = push_outcome(&mut out, &read(alloc, text));
-    pushed?;
-    Ok(out)
+    match read(alloc, text) {
+        Ok(file) => file_text(alloc, &file),
+        Err(Fault::Refused(refusal)) => refusal_text(alloc, refusal),
+        Err(Fault::NoMemory) => Err(NoMemory),
+    }
+}
+
+pub fn assert_same(rt: &impl Abort, got: &str, want: &str) {
+    assert_eq!(rt; got, want);
 }
 
 /// Asserts that this is the tree of the source, or its refusal.
-pub fn assert_shown(rt: &impl Abort, alloc: Global, source: &str, tree: &str) -> Result<(), Fail> {
-    assert_eq!(rt; shown(alloc, source)?.as_str(), tree);
+pub fn assert_shown(
+    rt: &impl Abort,
+    alloc: Global,
+    source: &str,
+    tree: &str,
+) -> Result<(), NoMemory> {
+    let got = shown(alloc, source)?;
+    assert_same(rt, got.as_str(), tree);
     Ok(())
 }
 
-/// The texts behind one another.
-fn joined(alloc: Global, texts: &[&str]) -> Result<String, NoMemory> {
-    let mut whole = String::new(alloc);
-    for text in texts {
-        whole.push_str(text)?;
+/// The same, of each row of a table.
+pub fn assert_rows(rt: &impl Abort, alloc: Global, rows: &[(&str, &str)]) -> Result<(), NoMemory> {
+    for &(source, tree) in rows {
+        assert_shown(rt, alloc, source, tree)?;
     }
-    Ok(whole)
+    Ok(())
+}
+
+/// The same, of a tree in parts.
+fn assert_parts(
+    rt: &impl Abort,
+    alloc: Global,
+    source: &str,
+    tree: &[&str],
+) -> Result<(), NoMemory> {
+    let tree = tree.concat(alloc)?;
+    assert_shown(rt, alloc, source, tree.as_str())
 }
 
 /// The same, of a source and a tree in parts.
@@ -84,10 +110,9 @@ pub fn assert_joined(
     alloc: Global,
     source: &[&str],
     tree: &[&str],
-) -> Result<(), Fail> {
-    let source = joined(alloc, source)?;
-    let tree = joined(alloc, tree)?;
-    assert_shown(rt, alloc, source.as_str(), tree.as_str())
+) -> Result<(), NoMemory> {
+    let source = source.concat(alloc)?;
+    assert_parts(rt, alloc, source.as_str(), tree)
 }
 
 /// The text, the middle so many times, and the end.
@@ -97,12 +122,7 @@ pub fn repeated(
     middle: &str,
     times: u32,
     end: &str,
-) -> Result<String, NoMemory> {
-    let mut text = String::new(alloc);
-    text.push_str(start)?;
-    for _ in 0..times {
-        text.push_str(middle)?;
-    }
-    text.push_str(end)?;
-    Ok(text)
+) -> Result<String, AllocError> {
+    let middle = middle.repeat(alloc, times as usize)?;
+    [start, middle.as_str(), end].concat(alloc)
 }

@@ -2,8 +2,9 @@
 
 use c_conditions::condition;
 use c_tokens::{NumberKind, Punct, TokenKind};
-use fc_base::Text;
-use std::alloc::Global;
+use fc_base::{NoMemory, Text};
+use std::alloc::{AllocError, Global};
+use std::process::Abort;
 use std::test::Fail;
 
 /// The punctuators of the rows.
@@ -37,7 +38,7 @@ const PUNCTS: &[Punct] = &[
 
 /// The kind of a word: a punctuator, a decimal number with or without `u`, a character constant by its number between
 /// quotes, a string literal, or a name.
-fn kind(alloc: Global, word: &str) -> Result<TokenKind, Fail> {
+fn kind(alloc: Global, word: &str) -> Result<TokenKind, NoMemory> {
     for &punct in PUNCTS {
         if punct.spelling() == word {
             return Ok(TokenKind::Punct(punct));
@@ -62,17 +63,42 @@ fn kind(alloc: Global, word: &str) -> Result<TokenKind, Fail> {
     }
 }
 
-fn decided(alloc: Global, text: &str) -> Result<Option<bool>, Fail> {
-    let mut kinds = Vec::new(alloc);
+fn push_word(alloc: Global, kinds: &mut Vec<TokenKind>, word: &str) -> Result<(), NoMemory> {
+    let kind = kind(alloc, word)?;
+    Ok(kinds.push(kind)?)
+}
+
+fn push_words(alloc: Global, kinds: &mut Vec<TokenKind>, text: &str) -> Result<(), NoMemory> {
     for word in text.split_ascii_whitespace() {
-        kinds.push(kind(alloc, word)?)?;
+        push_word(alloc, kinds, word)?;
     }
-    let mut line = Vec::new(alloc);
-    for kind in &kinds {
-        line.push(kind)?;
+    Ok(())
+}
+
+/// What the kinds decide as a line.
+fn decided_by(alloc: Global, kinds: &[TokenKind]) -> Result<Option<bool>, AllocError> {
+    let line: Vec<&TokenKind> = kinds.iter().collect(alloc)?;
+    condition(alloc, &line)
+}
+
+fn decided(alloc: Global, text: &str) -> Result<Option<bool>, NoMemory> {
+    let mut kinds = Vec::new(alloc);
+    push_words(alloc, &mut kinds, text)?;
+    let decision = decided_by(alloc, &kinds);
+    Ok(decision?)
+}
+
+/// Asserts of each text that it decides this.
+fn assert_decided(
+    rt: &impl Abort,
+    alloc: Global,
+    texts: &[&str],
+    want: Option<bool>,
+) -> Result<(), NoMemory> {
+    for &text in texts {
+        assert_eq!(rt; decided(alloc, text)?, want, "{text}");
     }
-    let decision = condition(alloc, &line)?;
-    Ok(decision)
+    Ok(())
 }
 
 /// Conditions that hold.
@@ -164,14 +190,8 @@ const BAD: &[&str] = &[
 
 #[test]
 fn rows_of_conditions(rt: HostRuntime) -> Result<(), Fail> {
-    for &text in HOLDING {
-        assert_eq!(rt; decided(rt.alloc(), text)?, Some(true), "{text}");
-    }
-    for &text in FAILING {
-        assert_eq!(rt; decided(rt.alloc(), text)?, Some(false), "{text}");
-    }
-    for &text in BAD {
-        assert_eq!(rt; decided(rt.alloc(), text)?, None, "{text}");
-    }
-    Ok(())
+    let alloc = rt.alloc();
+    assert_decided(&rt, alloc, HOLDING, Some(true))?;
+    assert_decided(&rt, alloc, FAILING, Some(false))?;
+    Ok(assert_decided(&rt, alloc, BAD, None)?)
 }

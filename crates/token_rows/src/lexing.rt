@@ -1,36 +1,55 @@
 //! Sources, with the tokens or the refusal that C11 and the rules of the subset give them.
 
-use crate::texts::{lexed, push_fault, push_kind, push_place};
-use c_tokens::TokenKind;
+use crate::texts::{assert_same, lexed, push_fault, push_kind, push_place};
+use c_tokens::{Token, TokenKind};
 use fc_base::{Fault, Place, Refusal, Rule};
-use std::alloc::Global;
+use std::alloc::{AllocError, Global};
+use std::process::Abort;
 use std::test::Fail;
 
-/// The kind as a text, a string literal as the numbers of its bytes.
-fn push_lexed(out: &mut String, kind: &TokenKind) -> Result<(), Fail> {
-    let TokenKind::Str(bytes) = kind else {
-        return push_kind(out, kind);
-    };
+/// The numbers of the bytes of a string literal.
+fn push_numbers(out: &mut String, bytes: &[u8]) -> Result<(), AllocError> {
     out.push('"')?;
-    for b in bytes.bytes() {
+    for b in bytes {
         write!(out, "{b},")?;
     }
-    out.push('"')?;
+    out.push('"')
+}
+
+/// The kind as a text, a string literal as the numbers of its bytes.
+fn push_lexed(out: &mut String, kind: &TokenKind) -> Result<(), AllocError> {
+    match kind {
+        TokenKind::Str(text) => push_numbers(out, text.bytes()),
+        _ => push_kind(out, kind),
+    }
+}
+
+fn push_tokens(out: &mut String, tokens: &[Token]) -> Result<(), AllocError> {
+    for token in tokens {
+        push_lexed(out, &token.kind)?;
+        push_place(out, token)?;
+    }
     Ok(())
 }
 
-fn shown(alloc: Global, source: &[u8]) -> Result<String, Fail> {
+/// The tokens with their places, or the refusal.
+fn shown(alloc: Global, source: &[u8]) -> Result<String, AllocError> {
     let mut out = String::new(alloc);
-    match lexed(alloc, source) {
-        Ok(tokens) => {
-            for token in &tokens {
-                push_lexed(&mut out, &token.kind)?;
-                push_place(&mut out, token)?;
-            }
-        }
-        Err(fault) => push_fault(&mut out, fault)?,
-    }
+    let pushed = match lexed(alloc, source) {
+        Ok(tokens) => push_tokens(&mut out, &tokens),
+        Err(fault) => push_fault(&mut out, fault),
+    };
+    pushed?;
     Ok(out)
+}
+
+/// Asserts of each source that it is shown so.
+fn assert_shown(rt: &impl Abort, alloc: Global, rows: &[(&[u8], &str)]) -> Result<(), AllocError> {
+    for &(source, want) in rows {
+        let got = shown(alloc, source)?;
+        assert_same(rt, got.as_str(), want);
+    }
+    Ok(())
 }
 
 const TOKENS: &[(&[u8], &str)] = &[
@@ -107,11 +126,7 @@ const TOKENS: &[(&[u8], &str)] = &[
 
 #[test]
 fn rows_of_tokens(rt: HostRuntime) -> Result<(), Fail> {
-    for &(source, want) in TOKENS {
-        let got = shown(rt.alloc(), source)?;
-        assert_eq!(rt; got.as_str(), want);
-    }
-    Ok(())
+    Ok(assert_shown(&rt, rt.alloc(), TOKENS)?)
 }
 
 const REFUSALS: &[(&[u8], &str)] = &[
@@ -170,23 +185,18 @@ const REFUSALS: &[(&[u8], &str)] = &[
 
 #[test]
 fn rows_of_refusals(rt: HostRuntime) -> Result<(), Fail> {
-    for &(source, want) in REFUSALS {
-        let got = shown(rt.alloc(), source)?;
-        assert_eq!(rt; got.as_str(), want);
-    }
-    Ok(())
+    Ok(assert_shown(&rt, rt.alloc(), REFUSALS)?)
 }
 
-/// How many tokens, or the refusal.
-fn counted(alloc: Global, source: &[u8]) -> Result<usize, Fault> {
-    Ok(lexed(alloc, source)?.len())
+/// How many tokens so many semicolons are, or the refusal.
+fn counted(alloc: Global, semicolons: usize) -> Result<usize, Fault> {
+    let source = vec![in alloc; b';'; semicolons]?;
+    Ok(lexed(alloc, &source)?.len())
 }
 
 #[test]
 fn one_token_over_the_limit(rt: HostRuntime) -> Result<(), Fail> {
-    let mut source = vec![in rt.alloc(); b';'; 1_000_000]?;
-    assert_eq!(rt; counted(rt.alloc(), &source), Ok(1_000_000));
-    source.push(b';')?;
+    assert_eq!(rt; counted(rt.alloc(), 1_000_000), Ok(1_000_000));
     let place = Place {
         line: 1,
         col: 1_000_001,
@@ -195,6 +205,6 @@ fn one_token_over_the_limit(rt: HostRuntime) -> Result<(), Fail> {
         rule: Rule::LimitTokens,
         place,
     }));
-    assert_eq!(rt; counted(rt.alloc(), &source), over);
+    assert_eq!(rt; counted(rt.alloc(), 1_000_001), over);
     Ok(())
 }

@@ -1,14 +1,15 @@
 //! Sources, with the tokens or the refusal that C11 6.10 and the rules of this preprocessor give them.
 
-use crate::texts::{lexed, push_fault, push_kind, push_place};
+use crate::texts::{assert_same, lexed, push_fault, push_kind, push_place};
 use c_macros::expand;
 use c_tokens::Token;
 use fc_base::{Fault, Level};
-use std::alloc::Global;
+use std::alloc::{AllocError, Global};
+use std::process::Abort;
 use std::test::Fail;
 
 /// The kinds with a space behind each.
-fn push_kinds(out: &mut String, tokens: &[Token]) -> Result<(), Fail> {
+fn push_kinds(out: &mut String, tokens: &[Token]) -> Result<(), AllocError> {
     for token in tokens {
         push_kind(out, &token.kind)?;
         out.push(' ')?;
@@ -17,7 +18,7 @@ fn push_kinds(out: &mut String, tokens: &[Token]) -> Result<(), Fail> {
 }
 
 /// Each token with its place.
-fn push_placed(out: &mut String, tokens: &[Token]) -> Result<(), Fail> {
+fn push_placed(out: &mut String, tokens: &[Token]) -> Result<(), AllocError> {
     for token in tokens {
         push_kind(out, &token.kind)?;
         push_place(out, token)?;
@@ -30,24 +31,51 @@ fn expanded(alloc: Global, source: &[u8], level: Level) -> Result<Vec<Token>, Fa
     expand(alloc, &list, level)
 }
 
-/// The kinds that a source expands to, or its refusal.
-fn shown(alloc: Global, source: &[u8]) -> Result<String, Fail> {
+/// The kinds of the tokens, or the refusal.
+fn kinds(alloc: Global, outcome: Result<Vec<Token>, Fault>) -> Result<String, AllocError> {
     let mut out = String::new(alloc);
-    match expanded(alloc, source, Level::Three) {
-        Ok(list) => push_kinds(&mut out, &list)?,
-        Err(fault) => push_fault(&mut out, fault)?,
-    }
+    let pushed = match outcome {
+        Ok(tokens) => push_kinds(&mut out, &tokens),
+        Err(fault) => push_fault(&mut out, fault),
+    };
+    pushed?;
     Ok(out)
 }
 
-/// The kinds of a text without directives.
-fn kinds(alloc: Global, text: &[u8]) -> Result<String, Fail> {
+/// The tokens with their places, or the refusal.
+fn placed(alloc: Global, outcome: Result<Vec<Token>, Fault>) -> Result<String, AllocError> {
     let mut out = String::new(alloc);
-    match lexed(alloc, text) {
-        Ok(list) => push_kinds(&mut out, &list)?,
-        Err(fault) => push_fault(&mut out, fault)?,
-    }
+    let pushed = match outcome {
+        Ok(tokens) => push_placed(&mut out, &tokens),
+        Err(fault) => push_fault(&mut out, fault),
+    };
+    pushed?;
     Ok(out)
+}
+
+/// Asserts that these are the kinds that the source expands to, or its refusal.
+fn assert_shown(
+    rt: &impl Abort,
+    alloc: Global,
+    source: &[u8],
+    want: &str,
+) -> Result<(), AllocError> {
+    let got = kinds(alloc, expanded(alloc, source, Level::Three))?;
+    assert_same(rt, got.as_str(), want);
+    Ok(())
+}
+
+/// Asserts of each source that it expands to the tokens of the text beside it, which has no directives.
+fn assert_expanded(
+    rt: &impl Abort,
+    alloc: Global,
+    rows: &[(&[u8], &[u8])],
+) -> Result<(), AllocError> {
+    for &(source, text) in rows {
+        let want = kinds(alloc, lexed(alloc, text))?;
+        assert_shown(rt, alloc, source, want.as_str())?;
+    }
+    Ok(())
 }
 
 const LISTS: &[(&[u8], &[u8])] = &[
@@ -151,15 +179,9 @@ const LISTS: &[(&[u8], &[u8])] = &[
     (b"#\n # /* none */\n1 # 2", b"1 # 2"),
 ];
 
-/// The tokens that a source expands to are those of the text beside it.
 #[test]
 fn rows_of_lists(rt: HostRuntime) -> Result<(), Fail> {
-    for &(source, text) in LISTS {
-        let got = shown(rt.alloc(), source)?;
-        let want = kinds(rt.alloc(), text)?;
-        assert_eq!(rt; got.as_str(), want.as_str());
-    }
-    Ok(())
+    Ok(assert_expanded(&rt, rt.alloc(), LISTS)?)
 }
 
 const DIRECTIVES: &[(&[u8], &[u8])] = &[
@@ -251,12 +273,7 @@ const DIRECTIVES: &[(&[u8], &[u8])] = &[
 /// Headers with their macros, and conditionals.
 #[test]
 fn rows_of_directives(rt: HostRuntime) -> Result<(), Fail> {
-    for &(source, text) in DIRECTIVES {
-        let got = shown(rt.alloc(), source)?;
-        let want = kinds(rt.alloc(), text)?;
-        assert_eq!(rt; got.as_str(), want.as_str());
-    }
-    Ok(())
+    Ok(assert_expanded(&rt, rt.alloc(), DIRECTIVES)?)
 }
 
 const YES: &str = "yes ";
@@ -265,110 +282,121 @@ const NO: &str = "no ";
 
 const BAD: &str = "bad-condition 4:1";
 
-const CONDITIONS: &[(&[u8], &str)] = &[
-    (b"1", YES),
-    (b"0", NO),
-    (b"'\\0'", NO),
-    (b"", BAD),
-    (b"(1", BAD),
-    (b"1)", BAD),
-    (b"1 2", BAD),
-    (b"1 ? 2", BAD),
-    (b"1 = 1", BAD),
-    (b"id++", BAD),
-    (b"\"a\"", BAD),
+const CONDITIONS: &[(&str, &str)] = &[
+    ("1", YES),
+    ("0", NO),
+    ("'\\0'", NO),
+    ("", BAD),
+    ("(1", BAD),
+    ("1)", BAD),
+    ("1 2", BAD),
+    ("1 ? 2", BAD),
+    ("1 = 1", BAD),
+    ("id++", BAD),
+    ("\"a\"", BAD),
     // Each operator.
-    (b"+1", YES),
-    (b"- 1", YES),
-    (b"!0", YES),
-    (b"!5", NO),
-    (b"~0 == -1", YES),
-    (b"- -1 == 1 && !!3 == 1", YES),
-    (b"2*3 == 6", YES),
-    (b"-7/2 == -3 && 7/-2 == -3", YES),
-    (b"-7%3 == -1 && 7%-3 == 1", YES),
-    (b"5-3-2", NO),
-    (b"24/4/2 == 3", YES),
-    (b"1 + 2*3 == 7", YES),
-    (b"1<<4 == 16 && 256>>4>>2 == 4", YES),
-    (b"-1>>1 == -1", YES),
-    (b"1 < 2 && 2 <= 2 && 3 > 2 && 2 >= 2", YES),
-    (b"2 < 2 || 3 <= 2 || 2 > 2 || 2 >= 3", NO),
-    (b"1 == 1 && 1 != 2", YES),
-    (b"1 != 1 || 1 == 2", NO),
-    (b"3 > 2 > 1", NO),
-    (b"(6&3) == 2 && (6^3) == 5 && (6|3) == 7", YES),
-    (b"6 & 3 == 2", NO),
-    (b"(1 | 2 ^ 3 & 4) == 3", YES),
-    (b"1 && 0", NO),
-    (b"0 || 2", YES),
-    (b"1 || 0 && 0", YES),
-    (b"1 ? 0 : 1", NO),
-    (b"0 ? 0 : 1 ? 2 : 0", YES),
-    (b"1 ? 1 : 0 ? 0 : 0", YES),
+    ("+1", YES),
+    ("- 1", YES),
+    ("!0", YES),
+    ("!5", NO),
+    ("~0 == -1", YES),
+    ("- -1 == 1 && !!3 == 1", YES),
+    ("2*3 == 6", YES),
+    ("-7/2 == -3 && 7/-2 == -3", YES),
+    ("-7%3 == -1 && 7%-3 == 1", YES),
+    ("5-3-2", NO),
+    ("24/4/2 == 3", YES),
+    ("1 + 2*3 == 7", YES),
+    ("1<<4 == 16 && 256>>4>>2 == 4", YES),
+    ("-1>>1 == -1", YES),
+    ("1 < 2 && 2 <= 2 && 3 > 2 && 2 >= 2", YES),
+    ("2 < 2 || 3 <= 2 || 2 > 2 || 2 >= 3", NO),
+    ("1 == 1 && 1 != 2", YES),
+    ("1 != 1 || 1 == 2", NO),
+    ("3 > 2 > 1", NO),
+    ("(6&3) == 2 && (6^3) == 5 && (6|3) == 7", YES),
+    ("6 & 3 == 2", NO),
+    ("(1 | 2 ^ 3 & 4) == 3", YES),
+    ("1 && 0", NO),
+    ("0 || 2", YES),
+    ("1 || 0 && 0", YES),
+    ("1 ? 0 : 1", NO),
+    ("0 ? 0 : 1 ? 2 : 0", YES),
+    ("1 ? 1 : 0 ? 0 : 0", YES),
     // Division by zero, shifts and commas, evaluated and not.
-    (b"1/0", BAD),
-    (b"1%0", BAD),
-    (b"0 && 1/0", NO),
-    (b"1 || 1%0", YES),
-    (b"1 && 1/0", BAD),
-    (b"1 ? 1 : 1/0", YES),
-    (b"0 ? 1/0 : 0", NO),
-    (b"(-9223372036854775807-1)/-1", BAD),
-    (b"(-9223372036854775807-1)%-1", BAD),
-    (b"1<<63 < 0", YES),
-    (b"1<<64", BAD),
-    (b"1>>-1", BAD),
-    (b"0 && 1<<64", NO),
-    (b"1, 2", BAD),
-    (b"(1, 2)", BAD),
-    (b"1 || (1, 2)", YES),
+    ("1/0", BAD),
+    ("1%0", BAD),
+    ("0 && 1/0", NO),
+    ("1 || 1%0", YES),
+    ("1 && 1/0", BAD),
+    ("1 ? 1 : 1/0", YES),
+    ("0 ? 1/0 : 0", NO),
+    ("(-9223372036854775807-1)/-1", BAD),
+    ("(-9223372036854775807-1)%-1", BAD),
+    ("1<<63 < 0", YES),
+    ("1<<64", BAD),
+    ("1>>-1", BAD),
+    ("0 && 1<<64", NO),
+    ("1, 2", BAD),
+    ("(1, 2)", BAD),
+    ("1 || (1, 2)", YES),
     // Unsigned by a suffix and by size, with wrapping.
-    (b"-1 < 0", YES),
-    (b"-1 < 0u", NO),
-    (b"-1 < 0L", YES),
-    (b"-1 > 9223372036854775807", NO),
-    (b"-1 > 9223372036854775808", YES),
-    (b"18446744073709551615 + 1 == 0", YES),
-    (b"9223372036854775807 + 1 < 0", YES),
-    (b"0u - 1 > 0", YES),
-    (b"-1/2u > 1", YES),
-    (b"-1>>1u == -1", YES),
-    (b"(1 ? -1 : 0u) > 0", YES),
-    (b"-(1u < 2u) < 0", YES),
-    (b"!0u - 2 < 0 && (0u || 1u) - 2 < 0", YES),
-    (b"'a' == 97 && '\\377' < 0", YES),
+    ("-1 < 0", YES),
+    ("-1 < 0u", NO),
+    ("-1 < 0L", YES),
+    ("-1 > 9223372036854775807", NO),
+    ("-1 > 9223372036854775808", YES),
+    ("18446744073709551615 + 1 == 0", YES),
+    ("9223372036854775807 + 1 < 0", YES),
+    ("0u - 1 > 0", YES),
+    ("-1/2u > 1", YES),
+    ("-1>>1u == -1", YES),
+    ("(1 ? -1 : 0u) > 0", YES),
+    ("-(1u < 2u) < 0", YES),
+    ("!0u - 2 < 0 && (0u || 1u) - 2 < 0", YES),
+    ("'a' == 97 && '\\377' < 0", YES),
     // Names, macros and `defined`.
-    (b"x", NO),
-    (b"x == 0 && int == 0", YES),
-    (b"id", NO),
-    (b"id(id(3)) == 3", YES),
-    (b"_FORTIFY_SOURCE == 3", YES),
-    (b"defined id", YES),
-    (b"defined(id) && defined ( d )", YES),
-    (b"defined x", NO),
-    (b"!defined x && !defined(x)", YES),
-    (b"defined id(0)", BAD),
-    (b"defined defined", NO),
-    (b"d", NO),
-    (b"d id", BAD),
-    (b"defined", BAD),
-    (b"defined 1", BAD),
-    (b"defined()", BAD),
-    (b"defined(id", BAD),
-    (b"0 && defined", BAD),
+    ("x", NO),
+    ("x == 0 && int == 0", YES),
+    ("id", NO),
+    ("id(id(3)) == 3", YES),
+    ("_FORTIFY_SOURCE == 3", YES),
+    ("defined id", YES),
+    ("defined(id) && defined ( d )", YES),
+    ("defined x", NO),
+    ("!defined x && !defined(x)", YES),
+    ("defined id(0)", BAD),
+    ("defined defined", NO),
+    ("d", NO),
+    ("d id", BAD),
+    ("defined", BAD),
+    ("defined 1", BAD),
+    ("defined()", BAD),
+    ("defined(id", BAD),
+    ("0 && defined", BAD),
 ];
+
+/// Asserts what the group of the condition gives, or its refusal.
+fn assert_group(
+    rt: &impl Abort,
+    alloc: Global,
+    condition: &str,
+    want: &str,
+) -> Result<(), AllocError> {
+    let source = [
+        "#define id(x) x\n#define d defined\n#\n#if ",
+        condition,
+        "\nyes\n#else\nno\n#endif",
+    ]
+    .concat(alloc)?;
+    assert_shown(rt, alloc, source.as_bytes(), want)
+}
 
 /// Conditions, with what the group gives or the refusal.
 #[test]
 fn rows_of_conditions(rt: HostRuntime) -> Result<(), Fail> {
     for &(condition, want) in CONDITIONS {
-        let mut source = Vec::new(rt.alloc());
-        source.extend_from_slice(b"#define id(x) x\n#define d defined\n#\n#if ")?;
-        source.extend_from_slice(condition)?;
-        source.extend_from_slice(b"\nyes\n#else\nno\n#endif")?;
-        let got = shown(rt.alloc(), &source)?;
-        assert_eq!(rt; got.as_str(), want);
+        assert_group(&rt, rt.alloc(), condition, want)?;
     }
     Ok(())
 }
@@ -471,8 +499,7 @@ const REFUSALS: &[(&[u8], &str)] = &[
 #[test]
 fn rows_of_refusals(rt: HostRuntime) -> Result<(), Fail> {
     for &(source, want) in REFUSALS {
-        let got = shown(rt.alloc(), source)?;
-        assert_eq!(rt; got.as_str(), want);
+        assert_shown(&rt, rt.alloc(), source, want)?;
     }
     Ok(())
 }
@@ -507,56 +534,88 @@ const PLACES: &[(Level, &[u8], &str)] = &[
     (Level::Three, b"_FORTIFY_SOURCE", "3d0 1:1\n"),
 ];
 
+/// Asserts that these are the tokens that the source expands to, with their places.
+fn assert_placed(
+    rt: &impl Abort,
+    alloc: Global,
+    level: Level,
+    source: &[u8],
+    want: &str,
+) -> Result<(), AllocError> {
+    let got = placed(alloc, expanded(alloc, source, level))?;
+    assert_same(rt, got.as_str(), want);
+    Ok(())
+}
+
 #[test]
 fn rows_of_places(rt: HostRuntime) -> Result<(), Fail> {
     for &(level, source, want) in PLACES {
-        let mut got = String::new(rt.alloc());
-        match expanded(rt.alloc(), source, level) {
-            Ok(list) => push_placed(&mut got, &list)?,
-            Err(fault) => push_fault(&mut got, fault)?,
-        }
-        assert_eq!(rt; got.as_str(), want);
+        assert_placed(&rt, rt.alloc(), level, source, want)?;
+    }
+    Ok(())
+}
+
+/// So many texts.
+fn push_repeated(out: &mut String, text: &str, times: usize) -> Result<(), AllocError> {
+    for _ in 0..times {
+        out.push_str(text)?;
     }
     Ok(())
 }
 
 /// So many calls of `f`, each the argument of the one before.
-fn nested(alloc: Global, calls: usize) -> Result<Vec<u8>, Fail> {
-    let mut source = Vec::new(alloc);
-    source.extend_from_slice(b"#define f(x) x\n")?;
-    for _ in 0..calls {
-        source.extend_from_slice(b"f(")?;
-    }
-    source.push(b'1')?;
-    for _ in 0..calls {
-        source.push(b')')?;
-    }
-    Ok(source)
+fn push_nested(out: &mut String, calls: usize) -> Result<(), AllocError> {
+    out.push_str("#define f(x) x\n")?;
+    push_repeated(out, "f(", calls)?;
+    out.push_str("1")?;
+    push_repeated(out, ")", calls)
+}
+
+/// Asserts what so many calls in one another are.
+fn assert_nested(
+    rt: &impl Abort,
+    alloc: Global,
+    calls: usize,
+    want: &str,
+) -> Result<(), AllocError> {
+    let mut source = String::new(alloc);
+    push_nested(&mut source, calls)?;
+    assert_shown(rt, alloc, source.as_bytes(), want)
 }
 
 /// Macros `m0` to `m19`, each twice as long as the one before, and a line with the last that is wanted.
-fn doubled(alloc: Global, last: usize) -> Result<Vec<u8>, Fail> {
-    let mut text = String::new(alloc);
-    text.push_str("#define m0 0 0\n")?;
+fn push_doubled(out: &mut String, last: u32) -> Result<(), AllocError> {
+    out.push_str("#define m0 0 0\n")?;
     for k in 0..19 {
-        write!(text, "#define m{} m{k} m{k}\n", k + 1)?;
+        write!(out, "#define m{} m{k} m{k}\n", k + 1)?;
     }
-    write!(text, "m{last}")?;
-    let mut source = Vec::new(alloc);
-    source.extend_from_slice(text.as_bytes())?;
+    write!(out, "m{last}")
+}
+
+fn doubled(alloc: Global, last: u32) -> Result<String, AllocError> {
+    let mut source = String::new(alloc);
+    push_doubled(&mut source, last)?;
     Ok(source)
+}
+
+/// How many tokens that macro is, or the refusal.
+fn doubled_count(alloc: Global, last: u32) -> Result<usize, Fault> {
+    let source = doubled(alloc, last)?;
+    Ok(expanded(alloc, source.as_bytes(), Level::Zero)?.len())
+}
+
+/// Asserts what that macro is.
+fn assert_doubled(rt: &impl Abort, alloc: Global, last: u32, want: &str) -> Result<(), AllocError> {
+    let source = doubled(alloc, last)?;
+    assert_shown(rt, alloc, source.as_bytes(), want)
 }
 
 #[test]
 fn limits(rt: HostRuntime) -> Result<(), Fail> {
     let alloc = rt.alloc();
-    let deep = shown(alloc, &nested(alloc, 200)?)?;
-    assert_eq!(rt; deep.as_str(), "1d0 ");
-    let too_deep = shown(alloc, &nested(alloc, 201)?)?;
-    assert_eq!(rt; too_deep.as_str(), "macro-arguments 2:401");
-    let long = expanded(alloc, &doubled(alloc, 17)?, Level::Zero)?;
-    assert_eq!(rt; long.len(), 262_144);
-    let too_long = shown(alloc, &doubled(alloc, 19)?)?;
-    assert_eq!(rt; too_long.as_str(), "limit-tokens 21:1");
+    assert_nested(&rt, alloc, 200, "1d0 ")?;
+    assert_nested(&rt, alloc, 201, "macro-arguments 2:401")?;
+    assert_eq!(rt; doubled_count(alloc, 17), Ok(262_144));
+    assert_doubled(&rt, alloc, 19, "limit-tokens 21:1")?;
     Ok(())
 }

@@ -1,67 +1,70 @@
 //! Tokens and faults as texts.
 
 use c_lexer::tokens;
-use c_tokens::{Token, TokenKind};
-use fc_base::{Fault, Place};
-use std::alloc::Global;
-use std::test::Fail;
+use c_tokens::{NumberKind, Token, TokenKind};
+use fc_base::{Fault, Refusal};
+use std::alloc::{AllocError, Global};
+use std::process::Abort;
 
-pub fn push_bytes(out: &mut String, bytes: &[u8]) -> Result<(), Fail> {
+fn push_bytes(out: &mut String, bytes: &[u8]) -> Result<(), AllocError> {
     for b in bytes {
         out.push(char::from(*b))?;
     }
     Ok(())
 }
 
-/// The kind as a text: a number with `d` where it is decimal, `u`, and its letters l; an inclusion as its line's tokens.
-pub fn push_kind(out: &mut String, kind: &TokenKind) -> Result<(), Fail> {
+/// The bytes between two characters.
+fn push_between(
+    out: &mut String,
+    before: char,
+    bytes: &[u8],
+    behind: char,
+) -> Result<(), AllocError> {
+    out.push(before)?;
+    push_bytes(out, bytes)?;
+    out.push(behind)
+}
+
+/// The number with `d` where it is decimal, `u`, and how many letters l it has.
+fn push_number(out: &mut String, value: u64, kind: NumberKind) -> Result<(), AllocError> {
+    let decimal = if kind.decimal { "d" } else { "" };
+    let unsigned = if kind.unsigned { "u" } else { "" };
+    write!(out, "{value}{decimal}{unsigned}{}", kind.longs)
+}
+
+/// The kind as a text, an inclusion as its line's tokens.
+pub fn push_kind(out: &mut String, kind: &TokenKind) -> Result<(), AllocError> {
     match kind {
-        TokenKind::Name(name) => push_bytes(out, name.bytes())?,
-        TokenKind::Number { value, kind } => {
-            let decimal = if kind.decimal { "d" } else { "" };
-            let unsigned = if kind.unsigned { "u" } else { "" };
-            write!(out, "{value}{decimal}{unsigned}{}", kind.longs)?;
-        }
-        TokenKind::CharConst(b) => write!(out, "'{b}'")?,
-        TokenKind::Str(text) => {
-            out.push('"')?;
-            push_bytes(out, text.bytes())?;
-            out.push('"')?;
-        }
-        TokenKind::Punct(punct) => out.push_str(punct.spelling())?,
-        TokenKind::HeaderName(name) => {
-            out.push('<')?;
-            push_bytes(out, name.bytes())?;
-            out.push('>')?;
-        }
-        TokenKind::Header(header) => write!(out, "# include <{}>", header.name())?,
+        TokenKind::Name(name) => push_bytes(out, name.bytes()),
+        TokenKind::Number { value, kind } => push_number(out, *value, *kind),
+        TokenKind::CharConst(b) => write!(out, "'{b}'"),
+        TokenKind::Str(text) => push_between(out, '"', text.bytes(), '"'),
+        TokenKind::Punct(punct) => out.push_str(punct.spelling()),
+        TokenKind::HeaderName(name) => push_between(out, '<', name.bytes(), '>'),
+        TokenKind::Header(header) => write!(out, "# include <{}>", header.name()),
     }
-    Ok(())
 }
 
 /// The token's place, `^` where it starts its line and `_` where it is spaced.
-pub fn push_place(out: &mut String, token: &Token) -> Result<(), Fail> {
-    write!(out, " {}:{}", token.place.line, token.place.col)?;
-    if token.starts_line {
-        out.push('^')?;
-    }
-    if token.spaced {
-        out.push('_')?;
-    }
-    out.push('\n')?;
-    Ok(())
+pub fn push_place(out: &mut String, token: &Token) -> Result<(), AllocError> {
+    let start = if token.starts_line { "^" } else { "" };
+    let space = if token.spaced { "_" } else { "" };
+    let place = token.place;
+    write!(out, " {}:{}{start}{space}\n", place.line, place.col)
 }
 
 /// The rule that is broken, with its place.
-pub fn push_fault(out: &mut String, fault: Fault) -> Result<(), Fail> {
+pub fn push_fault(out: &mut String, fault: Fault) -> Result<(), AllocError> {
     match fault {
-        Fault::Refused(refusal) => {
-            let Place { line, col } = refusal.place;
-            write!(out, "{} {line}:{col}", refusal.rule.name())?;
+        Fault::Refused(Refusal { rule, place }) => {
+            write!(out, "{} {}:{}", rule.name(), place.line, place.col)
         }
-        Fault::NoMemory => out.push_str("no memory")?,
+        Fault::NoMemory => out.push_str("no memory"),
     }
-    Ok(())
+}
+
+pub fn assert_same(rt: &impl Abort, got: &str, want: &str) {
+    assert_eq!(rt; got, want);
 }
 
 /// The tokens of a source that is not too long.

@@ -1,15 +1,14 @@
 //! External declarations and files.
 
 use crate::declarations::{LEVELS, push_declarator};
+use crate::output::Output;
 use crate::specifiers::push_specs;
 use crate::statements::{push_declaration, push_stmt};
-use crate::words::push_label;
 use c_tree::{External, FileTree};
-use fc_base::NoMemory;
 
-fn push_external(out: &mut String, external: &External) -> Result<(), NoMemory> {
+fn push_external(out: &mut Output, external: &External) {
     match external {
-        External::Header { .. } => push_label(out, "header"),
+        External::Header { .. } => out.push_str("header"),
         External::Declaration {
             specs,
             declarators,
@@ -21,19 +20,18 @@ fn push_external(out: &mut String, external: &External) -> Result<(), NoMemory> 
             body,
             ..
         } => {
-            push_specs(out, specs)?;
-            push_declarator(out, declarator, LEVELS)?;
-            push_label(out, " ")?;
-            push_stmt(out, body, LEVELS)
+            push_specs(out, specs);
+            push_declarator(out, declarator, LEVELS);
+            out.push_str(" ");
+            push_stmt(out, body, LEVELS);
         }
     }
 }
 
 /// The external declarations, with a semicolon behind each. Of an expression only a leaf is shown.
-pub fn push_file(out: &mut String, file: &FileTree) -> Result<(), NoMemory> {
+pub fn push_file(out: &mut Output, file: &FileTree) {
     for external in file.externals.as_slice() {
-        push_external(out, external)?;
-        push_label(out, "; ")?;
+        push_external(out, external);
+        out.push_str("; ");
     }
-    Ok(())
 }

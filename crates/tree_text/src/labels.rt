@@ -1,6 +1,8 @@
-//! How operators and the stars of declarators are printed.
+//! How operators, the stars of declarators and the words of specifiers are printed.
 
-use c_tree::{AssignOp, BinaryOp, ExprKind, PointerWord, PostfixOp, PrefixOp};
+use c_tree::{
+    Aggregate, AssignOp, BasicWord, BinaryOp, ExprKind, PointerWord, PostfixOp, PrefixOp,
+};
 
 fn binary(op: BinaryOp) -> &'static str {
     match op {
@@ -86,5 +88,24 @@ pub fn label_of_word(word: PointerWord) -> &'static str {
         PointerWord::Star => "* ",
         PointerWord::Const => "const ",
         PointerWord::Restrict => "restrict ",
+    }
+}
+
+pub fn label_of_basic(word: BasicWord) -> &'static str {
+    match word {
+        BasicWord::Void => "Void ",
+        BasicWord::Char => "Char ",
+        BasicWord::Short => "Short ",
+        BasicWord::Int => "Int ",
+        BasicWord::Long => "Long ",
+        BasicWord::Signed => "Signed ",
+        BasicWord::Unsigned => "Unsigned ",
+    }
+}
+
+pub fn label_of_aggregate(aggregate: Aggregate) -> &'static str {
+    match aggregate {
+        Aggregate::Struct => "Struct",
+        Aggregate::Union => "Union",
     }
 }

@@ -5,9 +5,10 @@ mod declarations;
 mod expressions;
 mod files;
 mod labels;
+mod output;
 mod specifiers;
 mod statements;
-mod words;
 
 pub use expressions::push_expr;
 pub use files::push_file;
+pub use output::Output;

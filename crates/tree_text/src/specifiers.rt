@@ -1,37 +1,34 @@
 //! Specifiers of declarations and of type names. Each has a blank behind it.
 
-use crate::words::{push_label, push_text};
+use crate::labels::{label_of_aggregate, label_of_basic};
+use crate::output::Output;
 use c_tree::{Attribute, Identifier, MemberDecl, Spec};
-use fc_base::{NoMemory, Text};
+use fc_base::Text;
 use sqlite_items::Items;
 
-fn push_name(out: &mut String, name: &Text) -> Result<(), NoMemory> {
-    push_text(out, name)?;
-    push_label(out, " ")
+fn push_name(out: &mut Output, name: &Text) {
+    out.push_text(name);
+    out.push_str(" ");
 }
 
 /// `s`, or `s{2}` with two declarations of members.
-fn push_tagged(
-    out: &mut String,
-    tag: &Identifier,
-    members: &Option<Items<MemberDecl>>,
-) -> Result<(), NoMemory> {
-    push_text(out, &tag.name)?;
+fn push_tagged(out: &mut Output, tag: &Identifier, members: &Option<Items<MemberDecl>>) {
+    out.push_text(&tag.name);
     match members {
-        Some(members) => Ok(write!(out, "{{{}}} ", members.len())?),
-        None => push_label(out, " "),
+        Some(members) => out.push_count("{", members.len(), "} "),
+        None => out.push_str(" "),
     }
 }
 
-fn push_spec(out: &mut String, spec: &Spec) -> Result<(), NoMemory> {
+fn push_spec(out: &mut Output, spec: &Spec) {
     match spec {
-        Spec::Typedef { .. } => push_label(out, "typedef "),
-        Spec::Extern { .. } => push_label(out, "extern "),
-        Spec::Static { .. } => push_label(out, "static "),
-        Spec::Inline { .. } => push_label(out, "inline "),
-        Spec::Const { .. } => push_label(out, "const "),
-        Spec::Attributes { list, .. } => Ok(write!(out, "attributes{} ", list.len())?),
-        Spec::Basic { word, .. } => Ok(write!(out, "{word:?} ")?),
+        Spec::Typedef { .. } => out.push_str("typedef "),
+        Spec::Extern { .. } => out.push_str("extern "),
+        Spec::Static { .. } => out.push_str("static "),
+        Spec::Inline { .. } => out.push_str("inline "),
+        Spec::Const { .. } => out.push_str("const "),
+        Spec::Attributes { list, .. } => out.push_count("attributes", list.len(), " "),
+        Spec::Basic { word, .. } => out.push_str(label_of_basic(*word)),
         Spec::TypedefName { name, .. } => push_name(out, name),
         Spec::Tagged {
             aggregate,
@@ -39,54 +36,60 @@ fn push_spec(out: &mut String, spec: &Spec) -> Result<(), NoMemory> {
             members,
             ..
         } => {
-            write!(out, "{aggregate:?} ")?;
-            push_tagged(out, tag, members)
+            out.push_str(label_of_aggregate(*aggregate));
+            out.push_str(" ");
+            push_tagged(out, tag, members);
         }
         Spec::Untagged {
             aggregate,
             members,
             ..
-        } => Ok(write!(out, "{aggregate:?}{{{}}} ", members.len())?),
-        Spec::Enum { enumerators, .. } => Ok(write!(out, "enum{{{}}} ", enumerators.len())?),
+        } => {
+            out.push_str(label_of_aggregate(*aggregate));
+            out.push_count("{", members.len(), "} ");
+        }
+        Spec::Enum { enumerators, .. } => out.push_count("enum{", enumerators.len(), "} "),
         Spec::EnumTag { tag, .. } => {
-            push_label(out, "enum ")?;
-            push_name(out, &tag.name)
+            out.push_str("enum ");
+            push_name(out, &tag.name);
         }
     }
 }
 
-pub fn push_specs(out: &mut String, specs: &Items<Spec>) -> Result<(), NoMemory> {
+pub fn push_specs(out: &mut Output, specs: &Items<Spec>) {
     for spec in specs.as_slice() {
-        push_spec(out, spec)?;
+        push_spec(out, spec);
     }
-    Ok(())
 }
 
-/// Each name, with how many tokens its arguments have.
-fn push_attributes(out: &mut String, list: &Items<Attribute>) -> Result<(), NoMemory> {
-    for attribute in list.as_slice() {
-        push_text(out, &attribute.name)?;
-        if let Some(args) = &attribute.args {
-            write!(out, "{}", args.len())?;
-        }
-        push_label(out, ";")?;
+/// The name, with how many tokens its arguments have.
+fn push_attribute(out: &mut Output, attribute: &Attribute) {
+    out.push_text(&attribute.name);
+    match &attribute.args {
+        Some(args) => out.push_count("", args.len(), ";"),
+        None => out.push_str(";"),
     }
-    push_label(out, " ")
+}
+
+fn push_attributes(out: &mut Output, list: &Items<Attribute>) {
+    for attribute in list.as_slice() {
+        push_attribute(out, attribute);
+    }
+    out.push_str(" ");
 }
 
 /// In a type name attributes have names, a tag stands alone, and a word of a basic type is not named.
-fn push_type_spec(out: &mut String, spec: &Spec) -> Result<(), NoMemory> {
+fn push_type_spec(out: &mut Output, spec: &Spec) {
     match spec {
         Spec::Attributes { list, .. } => push_attributes(out, list),
-        Spec::Basic { .. } => push_label(out, "basic "),
+        Spec::Basic { .. } => out.push_str("basic "),
         Spec::Tagged { tag, .. } => push_name(out, &tag.name),
         _ => push_spec(out, spec),
     }
 }
 
-pub fn push_type_specs(out: &mut String, specs: &Items<Spec>) -> Result<(), NoMemory> {
+pub fn push_type_specs(out: &mut Output, specs: &Items<Spec>) {
     for spec in specs.as_slice() {
-        push_type_spec(out, spec)?;
+        push_type_spec(out, spec);
     }
-    Ok(())
 }
