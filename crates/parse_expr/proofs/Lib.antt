@@ -4,6 +4,7 @@ pub mod Cursor
 pub mod Groups
 pub mod Keeping
 pub mod Knots
+pub mod Levels
 pub mod Lists
 pub mod Parts
 pub mod SpanSteps

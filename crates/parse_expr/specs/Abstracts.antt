@@ -6,9 +6,13 @@ use Rattle.c_tree.specs.declared.nodes.PointerWord.{PointerWord}
 use Rattle.c_tree.specs.declared.nodes.Declarator.{Declarator}
 use Rattle.c_tree.specs.declared.nodes.Declarator.TheVariants as d
 use Rattle.c_grammar.specs.Terminals.{Lexeme, place_of}
-use Rattle.c_grammar.specs.Reading.{◌>>=◌, Read, found, after_right_paren, after_left_bracket, bound, abstract_direct, pointer_words, stars}
+use Rattle.c_grammar.specs.Reading.{◌>>=◌, Read, found, after_right_paren, after_left_bracket, bound, bounded, abstract_direct, pointer_words, stars}
 
 module _ (sub : ℕ → List Lexeme → Option (Read Expr)) where
+  -- a declarator of a height with the bound behind a bracket, no higher than the limit
+  abbrev pub with_bound : ℕ → Place → Declarator → ℕ → List Lexeme → Option (Read Declarator)
+  with_bound limit start x h s = bound sub s >>= λ y. bounded limit (found (d.Array x y.tree start) (suc (max h y.height)) y.rest)
+
   -- the bound behind the parenthesis that closes a group
   abbrev pub group_bound : List Lexeme → Option (Read (Option Expr))
   group_bound s = after_right_paren s >>= λ t. after_left_bracket t >>= λ u. bound sub u

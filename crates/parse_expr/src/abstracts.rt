@@ -1,38 +1,44 @@
 //! Type names and abstract declarators (C11 6.7.7), and the bounds of arrays (C11 6.7.6.2).
 
-ghost use Rattle.std.specs.Prelude.{◌≡◌, ◌≤◌, ◌<◌, ◌+◌, ◌^◌, suc, length, IfOk};
+ghost use Rattle.std.specs.Prelude.{◌≡◌, ◌≤◌, ◌<◌, ◌+◌, ◌^◌, suc, max, length, IfOk};
 ghost use Rattle.c_tree.specs.declared.nodes.Declarator.TheVariants as d;
 ghost use Rattle.c_grammar.specs.Terminals.{place_of};
 ghost use Rattle.c_grammar.specs.Reading as spec;
 ghost use Rattle.parse_tokens.specs.Gives.{Gives, Low};
-ghost use Rattle.parse_expr.specs.Abstracts.{group_bound, group_at, pointer_at};
+ghost use Rattle.parse_expr.specs.Abstracts.{with_bound, group_bound, group_at, pointer_at};
 ghost use Rattle.parse_expr.specs.Nests.{Nests};
 
 use crate::grammar::Grammar;
-use crate::held::{both, kept};
 use crate::lefts::CONDITIONAL;
 use c_grammar::Terminal;
 use c_tokens::Punct;
 use c_tree::{Declarator, Expr, PointerWord, TypeName};
 use fc_base::Place;
-use parse_parts::{Context, plain_specs, pointer_words, stars};
-use parse_tokens::{ParseFault, Tall, Tokens, before_right_bracket};
+use parse_parts::{Context, boxed_behind, plain_specs, pointer_words, stars};
+use parse_tokens::{ParseFault, Tall, Tokens, before_right_bracket, both, kept};
 use sqlite_items::{Boxed, Items};
 use std::alloc::{AllocError, Global};
 
 /// `a[b]`, where `a` began at `start`.
 fn array(
     alloc: Global,
-    of: Declarator,
-    bound: Option<Boxed<Expr>>,
+    of: Tall<Declarator>,
+    bound: Tall<Option<Boxed<Expr>>>,
     start: Place,
-) -> Result<Declarator, AllocError>
-    ensures { IfOk result (λ x. x ≡ d.Array of bound start) }
+) -> Result<Tall<Declarator>, AllocError>
+    requires of { of.height < 2000 }
+    requires bound { bound.height < 2000 }
+    ensures { IfOk result (λ x. x ≡ record { tree = d.Array of.tree bound.tree start; height = suc (max of.height bound.height) }) }
 {
-    Ok(Declarator::Array {
-        of: Boxed::new(alloc, of)?,
-        bound,
-        place: start,
+    let height = of.height.max(bound.height) + 1;
+    let (bound, of) = boxed_behind(alloc, bound.tree, of.tree)?;
+    Ok(Tall {
+        tree: Declarator::Array {
+            of,
+            bound,
+            place: start,
+        },
+        height,
     })
 }
 
@@ -40,15 +46,21 @@ fn array(
 fn pointed(
     alloc: Global,
     words: Items<PointerWord>,
-    of: Declarator,
+    of: Tall<Declarator>,
     star: Place,
-) -> Result<Declarator, AllocError>
-    ensures { IfOk result (λ x. x ≡ d.Pointer words of star) }
+) -> Result<Tall<Declarator>, AllocError>
+    requires { of.height + 1 < 2 ^ 64 }
+    ensures { IfOk result (λ x. x ≡ record { tree = d.Pointer words of.tree star; height = suc of.height }) }
 {
-    Ok(Declarator::Pointer {
-        words,
-        of: Boxed::new(alloc, of)?,
-        place: star,
+    let height = of.height + 1;
+    let (words, of) = boxed_behind(alloc, words, of.tree)?;
+    Ok(Tall {
+        tree: Declarator::Pointer {
+            words,
+            of,
+            place: star,
+        },
+        height,
     })
 }
 
@@ -86,7 +98,27 @@ impl<F: Fn(Global, &mut Tokens<'_>, usize, u8) -> Result<Tall<Expr>, ParseFault>
         }
     }
 
-    /// Any number of bounds, of which each makes the tree a node higher.
+    /// A declarator and the bound behind a bracket, which make a tree a node higher.
+    fn with_bound(
+        &self,
+        tokens: &mut Tokens<'_>,
+        of: Tall<Declarator>,
+        start: Place,
+    ) -> Result<Tall<Declarator>, ParseFault>
+        requires nests { Nests self.now.depth (F.pre self.now.expr) (F.post self.now.expr) }
+        requires low { of.height ≤ self.now.depth + 1 }
+        ensures reads { Gives (with_bound (spec.expression self.now.depth) (suc self.now.depth) start of.tree of.height tokens.old) result tokens.new }
+        ensures low { IfOk result (λ x. x.height ≤ self.now.depth + 1) }
+        ensures on { IfOk result (λ _. length tokens.new < length tokens.old) }
+    {
+        let bound = self.bound(tokens);
+        let (of, bound) = both(of, bound)?;
+        let whole = array(self.alloc, of, bound, start)?;
+        let is_low = whole.height <= self.depth + 1;
+        kept(whole, is_low)
+    }
+
+    /// Any number of bounds.
     fn arrays(&self, tokens: &mut Tokens<'_>, place: Place) -> Result<Tall<Declarator>, ParseFault>
         requires { Nests self.now.depth (F.pre self.now.expr) (F.post self.now.expr) }
         ensures reads { Gives (spec.arrays (spec.expression self.now.depth) (suc self.now.depth) place (length tokens.old) (place_of tokens.old) (spec.found (d.Omitted place) 1 tokens.old)) result tokens.new }
@@ -94,24 +126,18 @@ impl<F: Fn(Global, &mut Tokens<'_>, usize, u8) -> Result<Tall<Expr>, ParseFault>
         ensures few { length tokens.old < 2 ^ 63 }
     {
         let start = tokens.place();
-        let mut tree = Declarator::Omitted { place };
-        let mut height = 1;
+        let mut whole = Tall {
+            tree: Declarator::Omitted { place },
+            height: 1,
+        };
         for _turn in 0..tokens.left() {
             if !tokens.take_left_bracket() {
-                return Ok(Tall { tree, height });
+                return Ok(whole);
             }
-            let bound = self.bound(tokens)?;
-            height = height.max(bound.height) + 1;
-            if height > self.depth + 1 {
-                return Err(ParseFault::NoDerivation);
-            }
-            tree = array(self.alloc, tree, bound.tree, start)?;
+            whole = self.with_bound(tokens, whole, start)?;
         }
-        if tokens.take_left_bracket() {
-            Err(ParseFault::NoDerivation)
-        } else {
-            Ok(Tall { tree, height })
-        }
+        let ends = !tokens.take_left_bracket();
+        kept(whole, ends)
     }
 
     /// `)[a]`
@@ -143,11 +169,12 @@ impl<F: Fn(Global, &mut Tokens<'_>, usize, u8) -> Result<Tall<Expr>, ParseFault>
             return Err(ParseFault::NoDerivation);
         }
         let bound = self.group_bound(tokens)?;
-        let tree = pointed(self.alloc, words, Declarator::Omitted { place }, star)?;
-        Ok(Tall {
-            tree: array(self.alloc, tree, bound.tree, start)?,
-            height: 2usize.max(bound.height) + 1,
-        })
+        let omitted = Tall {
+            tree: Declarator::Omitted { place },
+            height: 1,
+        };
+        let of = pointed(self.alloc, words, omitted, star)?;
+        Ok(array(self.alloc, of, bound, start)?)
     }
 
     fn abstract_direct(
@@ -182,11 +209,9 @@ impl<F: Fn(Global, &mut Tokens<'_>, usize, u8) -> Result<Tall<Expr>, ParseFault>
     {
         let star = tokens.place();
         let words = pointer_words(self.alloc, tokens)?;
-        let of = self.abstract_direct(tokens, place)?;
-        Ok(Tall {
-            tree: pointed(self.alloc, words, of.tree, star)?,
-            height: of.height + 1,
-        })
+        let of = self.abstract_direct(tokens, place);
+        let (words, of) = both(words, of)?;
+        Ok(pointed(self.alloc, words, of, star)?)
     }
 
     /// An abstract declarator, with the place of the first token of its parameter or type name.

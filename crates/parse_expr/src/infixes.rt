@@ -9,7 +9,6 @@ ghost use Rattle.parse_expr.specs.Nests.{Nests};
 ghost use Rattle.parse_expr.specs.Tails.{FitsTail, with_tail, bracketed, arguments_some, arguments, colon_ended, member_tail, choice_tail, tail_of, tail_behind, next_role, behind_next, go_on};
 
 use crate::grammar::Grammar;
-use crate::held::{both, kept};
 use crate::lefts::{ASSIGNMENT, CONDITIONAL, EXPRESSION, Left};
 use crate::roles::{binds, role_of, role_takes};
 use crate::tails::{Tail, assign, call, choice, index, join, list, member, step};
@@ -18,8 +17,8 @@ use c_tokens::Punct;
 use c_tree::Expr;
 use fc_base::Place;
 use parse_tokens::{
-    ParseFault, Tall, Tokens, before_colon, before_right_bracket, before_right_paren, copy_text,
-    is_tag,
+    ParseFault, Tall, Tokens, before_colon, before_right_bracket, before_right_paren, both,
+    copy_text, is_tag, kept,
 };
 use sqlite_items::Items;
 use std::alloc::{AllocError, Global};

@@ -4,7 +4,6 @@
 mod abstracts;
 mod expressions;
 mod grammar;
-mod held;
 mod infixes;
 mod lefts;
 mod operands;

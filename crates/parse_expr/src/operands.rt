@@ -14,7 +14,6 @@ ghost use Rattle.parse_expr.specs.Nests.{Nests};
 ghost use Rattle.parse_expr.specs.Openings.{opens_group, closed_type, converted, sized_type, sized, comma_ended, paren_ended, size_called};
 
 use crate::grammar::Grammar;
-use crate::held::both;
 use crate::lefts::{
     ASSIGNMENT, CAST, CONDITIONAL, EXPRESSION, Left, POSTFIX, PRIMARY, UNARY, boxed_pair,
 };
@@ -22,8 +21,8 @@ use c_grammar::{Keyword, Terminal};
 use c_tokens::{Punct, Token, TokenKind};
 use c_tree::{Expr, ExprKind, PrefixOp, TypeName};
 use fc_base::Place;
-use parse_parts::strings;
-use parse_tokens::{ParseFault, Tall, Tokens, before_comma, before_right_paren, copy_text};
+use parse_parts::{boxed_behind, strings};
+use parse_tokens::{ParseFault, Tall, Tokens, before_comma, before_right_paren, both, copy_text};
 use sqlite_items::Boxed;
 use std::alloc::{AllocError, Global};
 
@@ -65,8 +64,8 @@ fn cast(alloc: Global, to: Tall<TypeName>, of: Tall<Expr>, place: Place) -> Resu
     ensures { IfOk result (λ x. x ≡ record { level = 3; tree = grammar.expr (e.Cast to.tree of.tree) place; height = suc (max to.height of.height) }) }
 {
     let height = to.height.max(of.height) + 1;
-    let of = Boxed::new(alloc, of.tree)?;
-    Ok(Left::new(CAST, ExprKind::Cast { to: to.tree, of }, place, height))
+    let (to, of) = boxed_behind(alloc, to.tree, of.tree)?;
+    Ok(Left::new(CAST, ExprKind::Cast { to, of }, place, height))
 }
 
 /// `__builtin_dynamic_object_size (a, b)`

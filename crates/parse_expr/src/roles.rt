@@ -13,8 +13,7 @@ use c_tree::{AssignOp, BinaryOp, PostfixOp};
 use parse_tokens::Tokens;
 
 fn role_of_punct(punct: Punct) -> Role
-    ensures role { result ≡ spec.role_of_punct punct }
-    ensures low { spec.role_binds result ≤ 17 }
+    ensures { result ≡ spec.role_of_punct punct }
 {
     match punct {
         Punct::LeftParen => Role::Call,
@@ -59,6 +58,7 @@ fn role_of_punct(punct: Punct) -> Role
 }
 
 /// What the token does to an expression before it.
+#[tactic(auto, using(crate::proofs::Levels::punct_low))]
 pub fn role_of(terminal: Terminal) -> Role
     ensures role { result ≡ spec.role_of terminal }
     ensures low { spec.role_binds result ≤ 17 }

@@ -7,11 +7,10 @@ ghost use Rattle.parse_tokens.specs.declared.faults.ParseFault.TheVariants as fa
 ghost use Rattle.parse_expr.specs.Forms.{level_of, ends_at_commas};
 
 use crate::expressions::expression;
-use crate::held::kept;
 use crate::lefts::{ASSIGNMENT, CONDITIONAL, EXPRESSION};
 use c_tokens::{Punct, Token, TokenKind};
 use c_tree::{Expr, HEIGHT_LIMIT};
-use parse_tokens::{ParseFault, Tokens, TypeNames};
+use parse_tokens::{ParseFault, Tokens, TypeNames, kept};
 use std::alloc::Global;
 
 /// The form in which an expression is asked for.

@@ -7,6 +7,7 @@ ghost use Rattle.c_grammar.specs.Expressions.{expr};
 use crate::lefts::{ASSIGNMENT, CONDITIONAL, EXPRESSION, Left, POSTFIX, boxed_pair, boxed_three};
 use c_tree::{AssignOp, BinaryOp, Expr, ExprKind, PostfixOp};
 use fc_base::{Place, Text};
+use parse_parts::boxed_behind;
 use parse_tokens::Tall;
 use sqlite_items::{Boxed, Items};
 use std::alloc::{AllocError, Global};
@@ -47,8 +48,7 @@ pub fn call(alloc: Global, left: Left, args: Tall<Items<Expr>>) -> Result<Left, 
 {
     let place = left.tree.place;
     let height = left.height.max(args.height) + 1;
-    let callee = Boxed::new(alloc, left.tree)?;
-    let args = args.tree;
+    let (args, callee) = boxed_behind(alloc, args.tree, left.tree)?;
     Ok(Left::new(POSTFIX, ExprKind::Call { callee, args }, place, height))
 }
 
@@ -75,7 +75,7 @@ pub fn member(
     ensures { IfOk result (λ x. x ≡ record { level = 1; tree = expr (e.Member left.tree arrow name) place; height = suc left.height }) }
 {
     let height = left.height + 1;
-    let base = Boxed::new(alloc, left.tree)?;
+    let (name, base) = boxed_behind(alloc, name, left.tree)?;
     Ok(Left::new(
         POSTFIX,
         ExprKind::Member { base, arrow, name },

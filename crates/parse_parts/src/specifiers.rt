@@ -14,7 +14,7 @@ use crate::tallies::{Context, Tally};
 use c_grammar::{Keyword, Terminal};
 use c_tree::{Aggregate, BasicWord, Identifier, Spec};
 use fc_base::{NoMemory, Place};
-use parse_tokens::{ParseFault, Tall, Tokens, copy_text, is_tag};
+use parse_tokens::{ParseFault, Tall, Tokens, copy_text, is_tag, kept};
 use sqlite_items::Items;
 use std::alloc::Global;
 
@@ -298,9 +298,6 @@ pub fn plain_specs(
 {
     let turns = tokens.left();
     let list = specs_any(alloc, tokens, turns)?;
-    if list.tree.may_stand(context) {
-        Ok(list)
-    } else {
-        Err(ParseFault::NoDerivation)
-    }
+    let stands = list.tree.may_stand(context);
+    kept(list, stands)
 }

@@ -4,7 +4,7 @@
 ghost use Rattle.std.specs.Prelude.{◌≡◌, IfOk, IfErr, Ok, Err, true, false};
 ghost use Rattle.parse_tokens.specs.declared.faults.ParseFault.TheVariants as fault;
 
-use parse_tokens::ParseFault;
+use crate::faults::ParseFault;
 
 /// The part, if the test holds.
 pub fn kept<T: Drop>(part: T, holds: bool) -> Result<T, ParseFault>
