@@ -1,7 +1,7 @@
 -- The steps of a loop into the parentheses of a declarator, and of a loop out of them.
 use Rattle.std.proofs.Common.{◌≡◌, ℕ, zero, suc, ◌≤◌, List, [], ◌∷◌, ◌++◌, length, Option, Some, None, Bool, true, false, refl, sym, ap, ◌∙◌, arith}
 use Rattle.std.proofs.lemmas.Bool.{false≢true}
-use Rattle.std.specs.Prelude.{IfSome}
+use Rattle.std.specs.Prelude.{IfSome, IfOk, IfErr, Result, Ok, Err, ◌≢◌}
 use Rattle.c_tokens.specs.declared.puncts.Punct.TheVariants as p
 use Rattle.c_tokens.specs.declared.tokens.Token.{Token}
 use Rattle.c_grammar.specs.declared.terminals.Terminal.TheVariants as k
@@ -10,8 +10,14 @@ use Rattle.c_grammar.specs.Reading.{Read, ◌>>=◌, after_right_paren, found, p
 use Rattle.c_grammar.specs.ReadingDeclarators.{Named, grouped, first, direct, pointer_to, whole, declarator}
 use Rattle.c_grammar.proofs.Basics.{weaken}
 use Rattle.parse_declarators.specs.declared.declarators.Pointer.{Pointer}
+use Rattle.parse_tokens.specs.declared.faults.ParseFault.{ParseFault}
+use Rattle.parse_tokens.specs.declared.faults.ParseFault.TheVariants as fault
+use Rattle.parse_tokens.specs.declared.faults.Tall.{Tall}
+use Rattle.parse_declarators.specs.declared.named.Named.{Named as NamedTree}
 use Rattle.parse_declarators.specs.declared.declarators.Opening.{Opening}
-use Rattle.parse_declarators.specs.Suffixes.{pointer_at, opening_at, left_paren_at, name_at, pointed, closed, in_parens, around}
+use Rattle.parse_declarators.specs.declared.declarators.Openings.{Openings}
+use Rattle.parse_declarators.specs.Named.{as_read, GivesNamed, GivesOpenings}
+use Rattle.parse_declarators.specs.Suffixes.{pointer_at, opening_at, left_paren_at, name_at, pointed, closed, inmost_at, in_parens, around}
 use Rattle.parse_tokens.proofs.Binds.{bind_same, bind_bind}
 use Rattle.parse_parts.proofs.Misses.{nothing_found, some_same}
 use Rattle.parse_declarators.proofs.Lengths.{first_shorter}
@@ -124,7 +130,7 @@ module _ (n : ℕ) where
   first_named inside (o ∷ s) t e = ap (λ r. name_at r.1) e
 
   pub inside_named : (read : Option (Read Named)) (openings : List Opening) (opening : Opening) (s t : List Lexeme) (b : Bool) → left_paren_at s ≡ (b, t) → b ≡ false →
-      Inside read openings opening s → read ≡ around (suc n) (expression n) (declarator n) openings (name_at t >>= closed (suc n) (expression n) (declarator n) opening)
+      Inside read openings opening s → read ≡ around (suc n) (expression n) (declarator n) openings (inmost_at (suc n) (expression n) (declarator n) opening t)
   inside_named read openings opening s t b group not_one inside =
       inside.same
       ∙ ap (λ r. around (suc n) (expression n) (declarator n) openings (r >>= closed (suc n) (expression n) (declarator n) opening))
@@ -132,41 +138,44 @@ module _ (n : ℕ) where
 
   -- ---- The way out
 
-  pub around_goes : (openings before : List Opening) (opening : Opening) (x y : Read Named) (u : List Lexeme) → openings ≡ before ++ opening ∷ [] → after_right_paren x.rest ≡ Some u →
-      closed (suc n) (expression n) (declarator n) opening (found x.tree x.height u) ≡ Some y → around (suc n) (expression n) (declarator n) openings (Some x) ≡ around (suc n) (expression n) (declarator n) before (Some y)
-  around_goes openings before opening x y u e paren some =
-      ap (λ os. around (suc n) (expression n) (declarator n) os (Some x)) e ∙ around_more before opening (Some x)
-      ∙ ap (around (suc n) (expression n) (declarator n) before) (ap (λ o. o >>= λ u. closed (suc n) (expression n) (declarator n) opening (found x.tree x.height u)) paren ∙ some)
+  around_out : (openings before : List Opening) (opening : Opening) (r : Option (Read Named)) → openings ≡ before ++ opening ∷ [] →
+      around (suc n) (expression n) (declarator n) openings r ≡ around (suc n) (expression n) (declarator n) before (in_parens (suc n) (expression n) (declarator n) opening r)
+  around_out openings before opening r e = ap (λ os. around (suc n) (expression n) (declarator n) os r) e ∙ around_more before opening r
 
-  pub around_open : (openings before : List Opening) (opening : Opening) (x : Read Named) → openings ≡ before ++ opening ∷ [] → after_right_paren x.rest ≡ None →
-      around (suc n) (expression n) (declarator n) openings (Some x) ≡ None
-  around_open openings before opening x e paren =
-      ap (λ os. around (suc n) (expression n) (declarator n) os (Some x)) e ∙ around_more before opening (Some x)
-      ∙ ap (around (suc n) (expression n) (declarator n) before) (ap (λ o. o >>= λ u. closed (suc n) (expression n) (declarator n) opening (found x.tree x.height u)) paren) ∙ around_none before
+  pub around_goes : (openings before : List Opening) (opening : Opening) (x y : Read Named) → openings ≡ before ++ opening ∷ [] →
+      in_parens (suc n) (expression n) (declarator n) opening (Some x) ≡ Some y → around (suc n) (expression n) (declarator n) openings (Some x) ≡ around (suc n) (expression n) (declarator n) before (Some y)
+  around_goes openings before opening x y e some = around_out openings before opening (Some x) e ∙ ap (around (suc n) (expression n) (declarator n) before) some
 
-  pub around_fails : (openings before : List Opening) (opening : Opening) (x : Read Named) (u : List Lexeme) → openings ≡ before ++ opening ∷ [] → after_right_paren x.rest ≡ Some u →
-      closed (suc n) (expression n) (declarator n) opening (found x.tree x.height u) ≡ None → around (suc n) (expression n) (declarator n) openings (Some x) ≡ None
-  around_fails openings before opening x u e paren none =
-      ap (λ os. around (suc n) (expression n) (declarator n) os (Some x)) e ∙ around_more before opening (Some x)
-      ∙ ap (around (suc n) (expression n) (declarator n) before) (ap (λ o. o >>= λ u. closed (suc n) (expression n) (declarator n) opening (found x.tree x.height u)) paren ∙ none) ∙ around_none before
+  pub around_fails : (openings before : List Opening) (opening : Opening) (x : Read Named) → openings ≡ before ++ opening ∷ [] →
+      in_parens (suc n) (expression n) (declarator n) opening (Some x) ≡ None → around (suc n) (expression n) (declarator n) openings (Some x) ≡ None
+  around_fails openings before opening x e none = around_out openings before opening (Some x) e ∙ ap (around (suc n) (expression n) (declarator n) before) none ∙ around_none before
 
   pub around_over : (openings : List Opening) (x : Read Named) → openings ≡ [] → around (suc n) (expression n) (declarator n) openings (Some x) ≡ Some x
   unfolding around
   around_over openings x e = ap (λ os. around (suc n) (expression n) (declarator n) os (Some x)) e
 
-  -- ---- Behind the name
+  -- ---- Behind the inmost declarator
 
-  module _ {read r : Option (Read Named)} (openings : List Opening) (opening : Opening)
-      (named : read ≡ around (suc n) (expression n) (declarator n) openings (r >>= closed (suc n) (expression n) (declarator n) opening)) where
-    pub name_fails : r ≡ None → read ≡ None
-    name_fails none = named ∙ ap (λ r. around (suc n) (expression n) (declarator n) openings (r >>= closed (suc n) (expression n) (declarator n) opening)) none ∙ around_none openings
+  module _ {read r : Option (Read Named)} (openings : List Opening) (opened : read ≡ around (suc n) (expression n) (declarator n) openings r) where
+    pub inner_goes : (x : Read Named) → r ≡ Some x → read ≡ around (suc n) (expression n) (declarator n) openings (Some x)
+    inner_goes x some = opened ∙ ap (around (suc n) (expression n) (declarator n) openings) some
 
-    pub inner_goes : (x y : Read Named) → r ≡ Some x → closed (suc n) (expression n) (declarator n) opening x ≡ Some y → read ≡ around (suc n) (expression n) (declarator n) openings (Some y)
-    inner_goes x y some goes =
-        named ∙ ap (λ r. around (suc n) (expression n) (declarator n) openings (r >>= closed (suc n) (expression n) (declarator n) opening)) some
-        ∙ ap (around (suc n) (expression n) (declarator n) openings) goes
+    pub inner_fails : r ≡ None → read ≡ None
+    inner_fails none = opened ∙ ap (around (suc n) (expression n) (declarator n) openings) none ∙ around_none openings
 
-    pub inner_fails : (x : Read Named) → r ≡ Some x → closed (suc n) (expression n) (declarator n) opening x ≡ None → read ≡ None
-    inner_fails x some none =
-        named ∙ ap (λ r. around (suc n) (expression n) (declarator n) openings (r >>= closed (suc n) (expression n) (declarator n) opening)) some
-        ∙ ap (around (suc n) (expression n) (declarator n) openings) none ∙ around_none openings
+-- ---- The way in
+
+pub openings_given : (s t u : List Lexeme) (outer : List Opening) (inmost : Opening) →
+    ((n : ℕ) → whole (suc n) (expression n) (declarator n) (suc (length s)) s ≡ around (suc n) (expression n) (declarator n) outer (inmost_at (suc n) (expression n) (declarator n) inmost t)) →
+    (name : Result (Tall NamedTree) ParseFault) (r : Result (Openings × Tall NamedTree) ParseFault) → GivesNamed (name_at t) name u →
+    IfOk r (λ x. (x.0 ≡ record { outer = outer; inmost = inmost }) × (name ≡ Ok x.1)) → IfErr r (λ e. name ≡ Err e) → GivesOpenings s r u
+openings_given s t u outer inmost named name (Ok x) reads ok err = λ n.
+    let some : name_at t ≡ Some (as_read x.1 u) = rw ok.1 at reads in
+    named n ∙ ap (λ r. around (suc n) (expression n) (declarator n) outer (r >>= closed (suc n) (expression n) (declarator n) inmost)) some
+    ∙ sym (ap (λ o. around (suc n) (expression n) (declarator n) o.outer (closed (suc n) (expression n) (declarator n) o.inmost (as_read x.1 u))) ok.0)
+openings_given s t u outer inmost named name (Err e) reads ok err = λ enough n.
+    let fails : e ≢ fault.NoMemory → name_at t ≡ None = rw err at reads in
+    named n ∙ ap (λ r. around (suc n) (expression n) (declarator n) outer (r >>= closed (suc n) (expression n) (declarator n) inmost)) (fails enough) ∙ around_none n outer
+
+pub none_read : {P : Type 0} (n : ℕ) (s : List Lexeme) → (P → (n : ℕ) → whole (suc n) (expression n) (declarator n) (suc (length s)) s ≡ None) → P → whole (suc n) (expression n) (declarator n) (suc (length s)) s ≡ None
+none_read n s fails p = fails p n

@@ -1,5 +1,5 @@
 -- A declarator step by step: what stands before its name, and how it goes on behind it (C11 6.7.6).
-use Rattle.std.specs.Prelude.{ℕ, suc, max, List, [], ◌∷◌, Option, Some, None, Bool, true, false, length}
+use Rattle.std.specs.Prelude.{ℕ, suc, max, List, [], ◌∷◌, Option, Some, None, Bool, true, false, if◌then◌else◌, is_some, length}
 use Rattle.fc_base.specs.declared.refusals.Place.{Place}
 use Rattle.c_tokens.specs.declared.puncts.Punct.TheVariants as p
 use Rattle.c_tree.specs.declared.nodes.Expr.{Expr}
@@ -7,7 +7,7 @@ use Rattle.c_tree.specs.declared.nodes.Declarator.TheVariants as d
 use Rattle.c_tree.specs.declared.nodes.Params.{Params}
 use Rattle.c_grammar.specs.declared.terminals.Terminal.TheVariants as k
 use Rattle.c_grammar.specs.Terminals.{Lexeme, at, text_of, place_of}
-use Rattle.c_grammar.specs.Expressions.{bare, parameters, other, behind}
+use Rattle.c_grammar.specs.Expressions.{bare, parameters, other, behind, pointer_word}
 use Rattle.c_grammar.specs.Reading.{Read, ◌>>=◌, found, bounded, after_left_paren, after_right_paren, after_left_bracket, pointer_words, bound}
 use Rattle.c_grammar.specs.ReadingDeclarators.{Named, as_named, params_in, suffixes}
 use Rattle.parse_declarators.specs.declared.declarators.Pointer.{Pointer}
@@ -15,11 +15,18 @@ use Rattle.parse_declarators.specs.declared.declarators.Opening.{Opening}
 use Rattle.parse_declarators.specs.declared.declarators.Suffix.{Suffix}
 use Rattle.parse_declarators.specs.declared.declarators.Suffix.TheVariants as suffix
 
+-- whether a star or a qualifier comes next, and whether a star does
+abbrev pub begins_pointer_word : List Lexeme → Bool
+begins_pointer_word [] = false
+begins_pointer_word (at c o ∷ t) = is_some (pointer_word c)
+
+abbrev pub begins_star : List Lexeme → Bool
+begins_star (at (k.Punct p.Star) o ∷ t) = true
+begins_star _ = false
+
 -- what stands before a direct declarator, and the tokens behind it
 abbrev pub pointer_at : List Lexeme → Option Pointer × List Lexeme
-pointer_at (at (k.Punct p.Star) o ∷ t) =
-    (Some (record { words = (pointer_words (at (k.Punct p.Star) o ∷ t)).0; place = o.place }), (pointer_words (at (k.Punct p.Star) o ∷ t)).1)
-pointer_at s = (None, s)
+pointer_at s = if begins_star s then (Some (record { words = (pointer_words s).0; place = place_of s }), (pointer_words s).1) else (None, s)
 
 abbrev pub opening_at : List Lexeme → Opening × List Lexeme
 opening_at s = (record { pointer = (pointer_at s).0; start = place_of (pointer_at s).1 }, (pointer_at s).1)
@@ -47,19 +54,20 @@ with_bound start x y = found (as_named (d.Array x.tree.tree y.tree start) (behin
 abbrev pub with_params : Place → Read Named → Read Params → Read Named
 with_params start x y = found (as_named (d.Function x.tree.tree y.tree start) (behind x.tree.declared parameters)) (suc (max x.height y.height)) y.rest
 
+-- a bound in its brackets, with a reader of expressions
+abbrev pub bracketed : (ℕ → List Lexeme → Option (Read Expr)) → List Lexeme → Option (Read (Option Expr))
+bracketed sub s = after_left_bracket s >>= λ t. bound sub t
+
 -- with the most that a tree may be high, and readers of expressions and of declarators in parameters
 module _ (limit : ℕ) (sub : ℕ → List Lexeme → Option (Read Expr)) (deep : List Lexeme → Option (Read Named)) where
+  abbrev pub params_at : List Lexeme → Option (Read Params)
+  params_at s = after_left_paren s >>= λ t. params_in limit sub deep t
+
   abbrev pub array_at : Place → Read Named → List Lexeme → Option (Read Named)
-  array_at start x s = do
-    t ← after_left_bracket s
-    y ← bound sub t
-    bounded limit (with_bound start x y)
+  array_at start x s = bracketed sub s >>= λ y. bounded limit (with_bound start x y)
 
   abbrev pub function_at : Place → Read Named → List Lexeme → Option (Read Named)
-  function_at start x s = do
-    t ← after_left_paren s
-    y ← params_in limit sub deep t
-    bounded limit (with_params start x y)
+  function_at start x s = params_at s >>= λ y. bounded limit (with_params start x y)
 
 -- a direct declarator, which may be what a pointer stands before
 abbrev pub pointed : Option Pointer → Read Named → Read Named
@@ -71,6 +79,10 @@ module _ (limit : ℕ) (sub : ℕ → List Lexeme → Option (Read Expr)) (deep 
   -- the declarator, where its name or what stands in its parentheses has been read
   abbrev pub closed : Opening → Read Named → Option (Read Named)
   closed opening x = suffixes limit sub deep (length x.rest) opening.start x >>= λ y. Some (pointed opening.pointer y)
+
+  -- one whose name has not been read
+  abbrev pub inmost_at : Opening → List Lexeme → Option (Read Named)
+  inmost_at opening s = name_at s >>= λ x. closed opening x
 
   -- one that stands in the parentheses of the next, the inmost of them last
   abbrev pub in_parens : Opening → Option (Read Named) → Option (Read Named)

@@ -2,22 +2,22 @@
 
 ghost use Rattle.std.specs.Prelude.{◌≡◌, ◌+◌, ◌-◌, ◌≤◌, ◌<◌, ◌^◌, ◌∷◌, [], suc, max, List, Some, length, IfOk, IsTrue};
 ghost use Rattle.c_grammar.specs.Terminals.{Lexeme};
-ghost use Rattle.c_grammar.specs.Reading.{bounded, expression};
+ghost use Rattle.c_grammar.specs.Reading.{bounded, expression, found};
 ghost use Rattle.c_grammar.specs.ReadingDeclarators as spec;
-ghost use Rattle.parse_tokens.specs.Gives.{Low};
-ghost use Rattle.parse_declarators.specs.Named.{GivesNamed, HasRoom, as_read};
+ghost use Rattle.parse_tokens.specs.Gives.{Gives, Low};
+ghost use Rattle.parse_declarators.specs.Named.{GivesNamed, GivesOpenings, HasRoom, as_read};
 ghost use Rattle.parse_declarators.specs.Nests.{Nests};
-ghost use Rattle.parse_declarators.specs.Suffixes.{pointer_at, opening_at, left_paren_at, suffix_at, name_at, array_at, function_at, pointed, closed, around};
+ghost use Rattle.parse_declarators.specs.Suffixes.{begins_star, pointer_at, opening_at, left_paren_at, suffix_at, name_at, bracketed, params_at, with_bound, with_params, array_at, function_at, pointed, closed, in_parens, around};
 
 use crate::named::{Named, Nearest};
 use crate::params::Declarators;
 use c_grammar::Terminal;
 use c_tokens::Punct;
-use c_tree::{Declarator, PointerWord};
+use c_tree::{Declarator, Expr, Params, PointerWord};
 use fc_base::Place;
 use parse_expr::bound;
-use parse_parts::pointer_words;
-use parse_tokens::{ParseFault, Tall, Tokens, copy_text, text_of};
+use parse_parts::{boxed_behind, pointer_words};
+use parse_tokens::{ParseFault, Tall, Tokens, both, copy_text, kept, text_of};
 use sqlite_items::{Boxed, Items};
 use std::alloc::{AllocError, Global};
 
@@ -36,6 +36,15 @@ pub struct Opening {
     start: Place,
 }
 
+/// The openings of a declarator.
+#[derive(Drop)]
+pub struct Openings {
+    /// What stands before each parenthesis, the inmost last.
+    outer: Items<Opening>,
+    /// What stands before the name.
+    inmost: Opening,
+}
+
 /// How a declarator goes on.
 #[derive(Clone, Copy, Debug, PartialEq, Eq)]
 pub enum Suffix {
@@ -45,20 +54,26 @@ pub enum Suffix {
     Function,
 }
 
+/// Whether a star comes next.
+fn begins_star(tokens: &Tokens<'_>) -> bool
+    ensures next { result ≡ begins_star tokens.now }
+    ensures few { length tokens.now < 2 ^ 63 }
+{
+    matches!(tokens.peek(), Some(Terminal::Punct(Punct::Star)))
+}
+
 /// `* const *`, if it comes next.
 fn take_pointer(alloc: Global, tokens: &mut Tokens<'_>) -> Result<Option<Pointer>, AllocError>
     ensures reads { IfOk result (λ x. pointer_at tokens.old ≡ (x, tokens.new)) }
     ensures few { length tokens.old < 2 ^ 63 }
     ensures on { IfOk result (λ _. length tokens.new ≤ length tokens.old) }
 {
-    match tokens.peek() {
-        Some(Terminal::Punct(Punct::Star)) => {
-            let place = tokens.place();
-            let words = pointer_words(alloc, tokens)?;
-            Ok(Some(Pointer { words, place }))
-        }
-        _ => Ok(None),
+    if !begins_star(tokens) {
+        return Ok(None);
     }
+    let place = tokens.place();
+    let words = pointer_words(alloc, tokens)?;
+    Ok(Some(Pointer { words, place }))
 }
 
 /// What comes before the next name or parenthesis.
@@ -122,6 +137,26 @@ fn take_name<'a>(alloc: Global, tokens: &mut Tokens<'a>) -> Result<Tall<Named<'a
     }
 }
 
+/// What stands before the name of a declarator, and the name.
+fn take_openings<'a>(
+    alloc: Global,
+    tokens: &mut Tokens<'a>,
+) -> Result<(Openings, Tall<Named<'a>>), ParseFault>
+    ensures reads { GivesOpenings tokens.old result tokens.new }
+    ensures few { length tokens.old < 2 ^ 63 }
+    ensures low { IfOk result (λ x. x.1.height ≡ 1) }
+    ensures on { IfOk result (λ _. length tokens.new < length tokens.old) }
+{
+    let mut outer = Items::new(alloc);
+    let mut inmost = take_opening(alloc, tokens)?;
+    while take_left_paren(tokens) {
+        outer.push(inmost)?;
+        inmost = take_opening(alloc, tokens)?;
+    }
+    let name = take_name(alloc, tokens);
+    both(Openings { outer, inmost }, name)
+}
+
 /// The declarator behind its pointer.
 fn pointed<'a>(
     alloc: Global,
@@ -136,11 +171,12 @@ fn pointed<'a>(
         return Ok(direct);
     };
     let Tall { tree: of, height } = direct;
+    let (words, tree) = boxed_behind(alloc, words, of.tree)?;
     Ok(Tall {
         tree: Named {
             tree: Declarator::Pointer {
                 words,
-                of: Boxed::new(alloc, of.tree)?,
+                of: tree,
                 place,
             },
             name: of.name,
@@ -150,23 +186,93 @@ fn pointed<'a>(
     })
 }
 
+/// The declarator with a bound behind it, which begins at `start`.
+fn with_bound<'a>(
+    alloc: Global,
+    of: Tall<Named<'a>>,
+    size: Tall<Option<Boxed<Expr>>>,
+    start: Place,
+) -> Result<Tall<Named<'a>>, AllocError>
+    requires of { of.height + 1 < 2 ^ 64 }
+    requires size { size.height + 1 < 2 ^ 64 }
+    ensures reads { IfOk result (λ x. (s t : List Lexeme) → as_read x t ≡ with_bound start (as_read of.entry s) (found size.tree size.height t)) }
+    ensures height { IfOk result (λ x. x.height ≡ suc (max of.entry.height size.height)) }
+{
+    let height = of.height.max(size.height) + 1;
+    let of = of.tree;
+    let (bound, tree) = boxed_behind(alloc, size.tree, of.tree)?;
+    Ok(Tall {
+        tree: Named {
+            tree: Declarator::Array {
+                of: tree,
+                bound,
+                place: start,
+            },
+            name: of.name,
+            nearest: of.nearest.behind(Nearest::Other),
+        },
+        height,
+    })
+}
+
+/// The declarator with parameters behind it, which begins at `start`.
+fn with_params<'a>(
+    alloc: Global,
+    of: Tall<Named<'a>>,
+    params: Tall<Params>,
+    start: Place,
+) -> Result<Tall<Named<'a>>, AllocError>
+    requires of { of.height + 1 < 2 ^ 64 }
+    requires params { params.height + 1 < 2 ^ 64 }
+    ensures reads { IfOk result (λ x. (s t : List Lexeme) → as_read x t ≡ with_params start (as_read of.entry s) (found params.tree params.height t)) }
+    ensures height { IfOk result (λ x. x.height ≡ suc (max of.entry.height params.height)) }
+{
+    let height = of.height.max(params.height) + 1;
+    let of = of.tree;
+    let (params, tree) = boxed_behind(alloc, params.tree, of.tree)?;
+    Ok(Tall {
+        tree: Named {
+            tree: Declarator::Function {
+                of: tree,
+                params,
+                place: start,
+            },
+            name: of.name,
+            nearest: of.nearest.behind(Nearest::Parameters),
+        },
+        height,
+    })
+}
+
 /// The declarator, if its tree is not too high.
 fn within<'a>(found: Tall<Named<'a>>, depth: usize) -> Result<Tall<Named<'a>>, ParseFault>
     requires { depth < 1000 }
     ensures reads { (t : List Lexeme) → GivesNamed (bounded (suc depth) (as_read found.entry t)) result t }
     ensures same { IfOk result (λ x. x.height ≡ found.entry.height) }
 {
-    if found.height <= depth + 1 {
-        Ok(found)
-    } else {
-        Err(ParseFault::NoDerivation)
-    }
+    let low_enough = found.height <= depth + 1;
+    kept(found, low_enough)
+}
+
+/// `[2]`, or without a bound.
+fn bracketed(
+    alloc: Global,
+    tokens: &mut Tokens<'_>,
+    depth: usize,
+) -> Result<Tall<Option<Boxed<Expr>>>, ParseFault>
+    requires { depth < 1000 }
+    ensures reads { Gives (bracketed (expression depth) tokens.old) result tokens.new }
+    ensures low { IfOk result (λ x. x.height ≤ depth) }
+    ensures on { IfOk result (λ _. length tokens.new < length tokens.old) }
+{
+    tokens.expect_left_bracket()?;
+    bound(alloc, tokens, depth)
 }
 
 impl<'a, F: Fn(Global, &mut Tokens<'a>, usize) -> Result<Tall<Named<'a>>, ParseFault>> Declarators<
     F,
 > {
-    /// `[2]`
+    /// A declarator that `[2]` stands behind.
     fn array(
         &self,
         tokens: &mut Tokens<'a>,
@@ -179,25 +285,24 @@ impl<'a, F: Fn(Global, &mut Tokens<'a>, usize) -> Result<Tall<Named<'a>>, ParseF
         ensures low { Low (max of.entry.height (self.now.depth + 1)) result tokens.old tokens.new }
         ensures on { IfOk result (λ _. length tokens.new < length tokens.old) }
     {
-        tokens.expect_left_bracket()?;
-        let size = bound(self.alloc, tokens, self.depth)?;
-        let Tall { tree: of, height } = of;
-        let found = Tall {
-            tree: Named {
-                tree: Declarator::Array {
-                    of: Boxed::new(self.alloc, of.tree)?,
-                    bound: size.tree,
-                    place: start,
-                },
-                name: of.name,
-                nearest: of.nearest.behind(Nearest::Other),
-            },
-            height: height.max(size.height) + 1,
-        };
+        let size = bracketed(self.alloc, tokens, self.depth);
+        let (of, size) = both(of, size)?;
+        let found = with_bound(self.alloc, of, size, start)?;
         within(found, self.depth)
     }
 
     /// `(int x, char *y)`
+    fn params(&self, tokens: &mut Tokens<'a>) -> Result<Tall<Params>, ParseFault>
+        requires { Nests self.now.depth (F.pre self.now.declarator) (F.post self.now.declarator) }
+        ensures reads { Gives (params_at (suc self.now.depth) (expression self.now.depth) (spec.declarator self.now.depth) tokens.old) result tokens.new }
+        ensures low { Low self.now.depth result tokens.old tokens.new }
+        ensures on { IfOk result (λ _. length tokens.new < length tokens.old) }
+    {
+        tokens.expect_left_paren()?;
+        self.params_in(tokens)
+    }
+
+    /// A declarator that `(int x, char *y)` stands behind.
     fn function(
         &self,
         tokens: &mut Tokens<'a>,
@@ -210,21 +315,9 @@ impl<'a, F: Fn(Global, &mut Tokens<'a>, usize) -> Result<Tall<Named<'a>>, ParseF
         ensures low { Low (max of.entry.height (self.now.depth + 1)) result tokens.old tokens.new }
         ensures on { IfOk result (λ _. length tokens.new < length tokens.old) }
     {
-        tokens.expect_left_paren()?;
-        let params = self.params_in(tokens)?;
-        let Tall { tree: of, height } = of;
-        let found = Tall {
-            tree: Named {
-                tree: Declarator::Function {
-                    of: Boxed::new(self.alloc, of.tree)?,
-                    params: params.tree,
-                    place: start,
-                },
-                name: of.name,
-                nearest: of.nearest.behind(Nearest::Parameters),
-            },
-            height: height.max(params.height) + 1,
-        };
+        let params = self.params(tokens);
+        let (of, params) = both(of, params)?;
+        let found = with_params(self.alloc, of, params, start)?;
         within(found, self.depth)
     }
 
@@ -264,8 +357,29 @@ impl<'a, F: Fn(Global, &mut Tokens<'a>, usize) -> Result<Tall<Named<'a>>, ParseF
         ensures low { Low (max first.entry.height (self.now.depth + 1) + 1) result tokens.old tokens.new }
         ensures on { IfOk result (λ _. length tokens.new ≤ length tokens.old) }
     {
-        let direct = self.suffixes(tokens, opening.start, first)?;
-        Ok(pointed(self.alloc, opening.pointer, direct)?)
+        let Opening { pointer, start } = opening;
+        let direct = self.suffixes(tokens, start, first);
+        let (pointer, direct) = both(pointer, direct)?;
+        Ok(pointed(self.alloc, pointer, direct)?)
+    }
+
+    /// The declarator of an opening whose parenthesis holds the inner one, from the `)` on.
+    fn in_parens(
+        &self,
+        tokens: &mut Tokens<'a>,
+        opening: Opening,
+        inner: Tall<Named<'a>>,
+    ) -> Result<Tall<Named<'a>>, ParseFault>
+        requires nests { Nests self.now.depth (F.pre self.now.declarator) (F.post self.now.declarator) }
+        requires few { HasRoom inner.height tokens.old }
+        ensures reads { GivesNamed (in_parens (suc self.now.depth) (expression self.now.depth) (spec.declarator self.now.depth) opening (Some (as_read inner.entry tokens.old))) result tokens.new }
+        ensures low { Low (max inner.entry.height (self.now.depth + 1)) result tokens.old tokens.new }
+        ensures on { IfOk result (λ _. length tokens.new < length tokens.old) }
+    {
+        let paren = tokens.expect_right_paren();
+        let (parts, ()) = both((opening, inner), paren)?;
+        let (opening, inner) = parts;
+        self.closed(tokens, opening, inner)
     }
 
     /// The declarator round the inner one, by what stands before each parenthesis, the inmost last.
@@ -284,13 +398,15 @@ impl<'a, F: Fn(Global, &mut Tokens<'a>, usize) -> Result<Tall<Named<'a>>, ParseF
         let mut outer = outer;
         let mut declarator = inner;
         while let Some(opening) = outer.pop() {
-            tokens.expect_right_paren()?;
-            declarator = self.closed(tokens, opening, declarator)?;
+            let next = self.in_parens(tokens, opening, declarator);
+            let (left, next) = both(outer, next)?;
+            outer = left;
+            declarator = next;
         }
         Ok(declarator)
     }
 
-    /// `*(*x)[2]`: a loop goes in to the name, and another one out again.
+    /// `*(*x)[2]`: one loop has gone in to the name, and another one goes out again.
     fn whole(&self, tokens: &mut Tokens<'a>) -> Result<Tall<Named<'a>>, ParseFault>
         requires { Nests self.now.depth (F.pre self.now.declarator) (F.post self.now.declarator) }
         ensures reads { GivesNamed (spec.whole (suc self.now.depth) (expression self.now.depth) (spec.declarator self.now.depth) (suc (length tokens.old)) tokens.old) result tokens.new }
@@ -298,14 +414,10 @@ impl<'a, F: Fn(Global, &mut Tokens<'a>, usize) -> Result<Tall<Named<'a>>, ParseF
         ensures on { IfOk result (λ _. length tokens.new < length tokens.old) }
         ensures few { length tokens.old < 2 ^ 63 }
     {
-        let mut outer = Items::new(self.alloc);
-        let mut inmost = take_opening(self.alloc, tokens)?;
-        while take_left_paren(tokens) {
-            outer.push(inmost)?;
-            inmost = take_opening(self.alloc, tokens)?;
-        }
-        let name = take_name(self.alloc, tokens)?;
-        let inner = self.closed(tokens, inmost, name)?;
+        let (openings, name) = take_openings(self.alloc, tokens)?;
+        let Openings { outer, inmost } = openings;
+        let inner = self.closed(tokens, inmost, name);
+        let (outer, inner) = both(outer, inner)?;
         self.around(tokens, outer, inner)
     }
 }

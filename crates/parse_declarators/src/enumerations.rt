@@ -11,7 +11,7 @@ use c_grammar::Terminal;
 use c_tokens::Punct;
 use c_tree::Enumerator;
 use parse_expr::{CONDITIONAL, expression};
-use parse_tokens::{ParseFault, Tall, Tokens};
+use parse_tokens::{ParseFault, Tall, Tokens, both};
 use sqlite_items::Items;
 use std::alloc::Global;
 
@@ -34,7 +34,8 @@ fn enumerator(
     match tokens.peek() {
         Some(Terminal::Punct(Punct::Assign)) => {
             tokens.next();
-            let value = expression(alloc, tokens, depth, CONDITIONAL)?;
+            let value = expression(alloc, tokens, depth, CONDITIONAL);
+            let (name, value) = both(name, value)?;
             Ok(Tall {
                 tree: Enumerator {
                     name,

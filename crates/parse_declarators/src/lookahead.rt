@@ -2,21 +2,29 @@
 
 ghost use Rattle.std.specs.Prelude.{◌≡◌};
 ghost use Rattle.c_grammar.specs.Reading.{pointer_words, stars};
+ghost use Rattle.parse_declarators.specs.Suffixes.{begins_pointer_word};
 ghost use Rattle.c_grammar.specs.ReadingDeclarators as spec;
 
 use c_grammar::{Keyword, Terminal};
 use c_tokens::Punct;
 use parse_tokens::Tokens;
 
+/// Whether a star or a qualifier comes next.
+fn begins_pointer_word(tokens: &Tokens<'_>) -> bool
+    ensures { result ≡ begins_pointer_word tokens.now }
+{
+    matches!(
+        tokens.peek(),
+        Some(Terminal::Punct(Punct::Star) | Terminal::Word(Keyword::Const | Keyword::Restrict))
+    )
+}
+
 /// Passes any number of stars and qualifiers, as `* const *`.
 #[tactic(auto, unfolding(c_grammar::specs::Reading::pointer_words))]
 fn pass_pointer_words(tokens: &mut Tokens<'_>)
     ensures { tokens.new ≡ (pointer_words tokens.old).1 }
 {
-    while let Some(
-        Terminal::Punct(Punct::Star) | Terminal::Word(Keyword::Const | Keyword::Restrict),
-    ) = tokens.peek()
-    {
+    while begins_pointer_word(tokens) {
         tokens.next();
     }
 }

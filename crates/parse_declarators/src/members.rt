@@ -12,7 +12,7 @@ use crate::declarators::declarator;
 use crate::ends::{take_body_end, take_declarators_end};
 use c_tree::{Declarator, MemberDecl};
 use parse_parts::{Context, Counted, SpecList};
-use parse_tokens::{ParseFault, Tall, Tokens};
+use parse_tokens::{ParseFault, Tall, Tokens, both, kept};
 use sqlite_items::Items;
 use std::alloc::Global;
 
@@ -101,11 +101,8 @@ impl<F: Fn(Global, &mut Tokens<'_>, usize) -> Result<Tall<Counted>, ParseFault>>
     {
         let turns = tokens.left();
         let list = self.specs_any(tokens, turns)?;
-        if list.tree.may_stand(Context::Outer) {
-            Ok(list)
-        } else {
-            Err(ParseFault::NoDerivation)
-        }
+        let stands = list.tree.may_stand(Context::Outer);
+        kept(list, stands)
     }
 
     /// `int *a, b[2];`
@@ -117,11 +114,11 @@ impl<F: Fn(Global, &mut Tokens<'_>, usize) -> Result<Tall<Counted>, ParseFault>>
         ensures on { IfOk result (λ _. length tokens.new < length tokens.old) }
     {
         let specs = self.specs(tokens)?;
-        let list = specs.tree;
-        let declarators = declarators(self.alloc, tokens, self.depth)?;
+        let declarators = declarators(self.alloc, tokens, self.depth);
+        let (specs, declarators) = both(specs, declarators)?;
         Ok(Tall {
             tree: MemberDecl {
-                specs: list.specs,
+                specs: specs.tree.specs,
                 declarators: declarators.tree,
             },
             height: specs.height.max(declarators.height),

@@ -16,7 +16,7 @@ use c_tree::{Param, Params};
 use fc_base::Place;
 use parse_expr::abstract_declarator;
 use parse_parts::{Context, SpecList, plain_specs};
-use parse_tokens::{ParseFault, Tall, Tokens};
+use parse_tokens::{ParseFault, Tall, Tokens, both};
 use sqlite_items::Items;
 use std::alloc::Global;
 
@@ -45,7 +45,8 @@ impl<'a, F: Fn(Global, &mut Tokens<'a>, usize) -> Result<Tall<Named<'a>>, ParseF
         ensures low { Low (self.now.depth + 1) result tokens.old tokens.new }
         ensures on { IfOk result (λ _. length tokens.new ≤ length tokens.old) }
     {
-        let named = (self.declarator)(self.alloc, tokens, self.depth)?;
+        let named = (self.declarator)(self.alloc, tokens, self.depth);
+        let (specs, named) = both(specs, named)?;
         Ok(Tall {
             tree: Param {
                 specs: specs.tree.specs,
@@ -69,7 +70,8 @@ impl<'a, F: Fn(Global, &mut Tokens<'a>, usize) -> Result<Tall<Named<'a>>, ParseF
         ensures low { Low (self.now.depth + 1) result tokens.old tokens.new }
         ensures on { IfOk result (λ _. length tokens.new ≤ length tokens.old) }
     {
-        let unnamed = abstract_declarator(self.alloc, tokens, self.depth, place)?;
+        let unnamed = abstract_declarator(self.alloc, tokens, self.depth, place);
+        let (specs, unnamed) = both(specs, unnamed)?;
         Ok(Tall {
             tree: Param {
                 specs: specs.tree.specs,

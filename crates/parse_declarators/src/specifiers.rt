@@ -16,7 +16,7 @@ use c_tokens::{Punct, Token};
 use c_tree::{Aggregate, Spec};
 use fc_base::Place;
 use parse_parts::{Counted, SpecList, Tally, plain_spec};
-use parse_tokens::{ParseFault, Tall, Tokens, is_tag};
+use parse_tokens::{ParseFault, Tall, Tokens, both, is_tag};
 use std::alloc::Global;
 
 /// A structure, union or enumeration as a specifier.
@@ -75,7 +75,8 @@ impl<F: Fn(Global, &mut Tokens<'_>, usize) -> Result<Tall<Counted>, ParseFault>>
         ensures on { IfOk result (λ _. length tokens.new < length tokens.old) }
     {
         let tag = copy_identifier(self.alloc, tag)?;
-        let members = self.members(tokens)?;
+        let members = self.members(tokens);
+        let (tag, members) = both(tag, members)?;
         let spec = Spec::Tagged {
             aggregate,
             tag,
@@ -175,7 +176,8 @@ impl<F: Fn(Global, &mut Tokens<'_>, usize) -> Result<Tall<Counted>, ParseFault>>
         ensures on { IfOk result (λ _. length tokens.new < length tokens.old) }
     {
         let tag = copy_identifier(self.alloc, tag)?;
-        let enumerators = enumerators(self.alloc, tokens, self.depth)?;
+        let enumerators = enumerators(self.alloc, tokens, self.depth);
+        let (tag, enumerators) = both(tag, enumerators)?;
         let spec = Spec::Enum {
             tag: Some(tag),
             enumerators: enumerators.tree,

@@ -1,31 +1,34 @@
-use Rattle.std.proofs.Common.{◌≡◌, ◌∙◌, suc, length, [], rules, arith}
+use Rattle.std.proofs.Common.{◌≡◌, ◌∙◌, ◌+◌, ◌≤◌, ◌<◌, suc, max, Some, length, [], sym, ap, rules, arith}
+use Rattle.c_grammar.specs.Reading.{expression}
+use Rattle.c_grammar.specs.ReadingDeclarators.{declarator}
 use Rattle.parse_declarators.specs.Named.{as_read}
+use Rattle.parse_declarators.specs.Suffixes.{in_parens, around}
 use Rattle.parse_tokens.proofs.Binds.{none_along}
-use Rattle.parse_declarators.proofs.Openings.{around_goes, around_open, around_fails, around_over, paren_taken}
+use Rattle.parse_declarators.proofs.Openings.{around_goes, around_fails, around_over}
 use Rattle.parse_declarators.proofs.params.Declarators.around.Goals as goal
 
-pub returns-in_err-expect_right_paren-clause-reads : goal.returns-in_err-expect_right_paren-clause-reads
-returns-in_err-expect_right_paren-clause-reads g c =
+pub returns-in_err-left-clause-reads : goal.returns-in_err-left-clause-reads
+returns-in_err-left-clause-reads g c =
     let fails = none_along c.loop-opening.invariant.same
-    (around_open c.args.self.now.depth c.loop-opening.outer c.pop.new.self c.in-Some.opening (as_read c.loop-opening.declarator c.loop-opening.tokens) c.in-Some.ensures) in
-    search (rules, fails)
-
-pub returns-in_err-declarator-clause-reads : goal.returns-in_err-declarator-clause-reads
-returns-in_err-declarator-clause-reads g c =
-    let fails = none_along c.loop-opening.invariant.same
-    (around_fails c.args.self.now.depth c.loop-opening.outer c.pop.new.self c.in-Some.opening (as_read c.loop-opening.declarator c.loop-opening.tokens) c.expect_right_paren.new.self
-    c.in-Some.ensures c.in_ok-expect_right_paren.ensures) in
-    search (rules, fails)
+    (around_fails c.args.self.now.depth c.loop-opening.outer c.pop.new.self c.in-Some.opening (as_read c.loop-opening.declarator c.loop-opening.tokens) c.in-Some.ensures) in
+    let reads = rw c.in_err-left.ensures.err at c.in_parens-next.ensures.reads in
+    search (rules, fails, reads)
 
 pub loop-opening-preserved : goal.loop-opening-preserved
 loop-opening-preserved g c =
-    let taken : length c.loop-opening.tokens ≡ suc (length c.expect_right_paren.new.self) = paren_taken _ _ c.in_ok-expect_right_paren.ensures in
+    let depth = c.args.self.now.depth in
+    let rest = c.in_parens-next.new.tokens in
+    let both = c.in_ok-left.ensures.ok in
+    let on : length rest < length c.loop-opening.tokens = rw both.1 at c.in_parens-next.ensures.on in
+    let low : c.in_ok-left.next.height + length rest ≤ max c.loop-opening.declarator.height (depth + 1) + length c.loop-opening.tokens = rw both.1 at c.in_parens-next.ensures.low in
+    let reads : in_parens (suc depth) (expression depth) (declarator depth) c.in-Some.opening (Some (as_read c.loop-opening.declarator c.loop-opening.tokens)) ≡ Some (as_read c.in_ok-left.next rest) =
+    rw both.1 at c.in_parens-next.ensures.reads in
     record {
-      on = omega (arith, taken, c.loop-opening.invariant.on, c.in_ok-declarator.ensures.on);
-      low = omega (arith, taken, c.loop-opening.invariant.on, c.loop-opening.invariant.low, c.in_ok-declarator.ensures.low);
+      on = omega (arith, on, c.loop-opening.invariant.on);
+      low = omega (arith, on, low, c.loop-opening.invariant.on, c.loop-opening.invariant.low);
       same = c.loop-opening.invariant.same
-          ∙ around_goes c.args.self.now.depth c.loop-opening.outer c.pop.new.self c.in-Some.opening (as_read c.loop-opening.declarator c.loop-opening.tokens)
-          (as_read c.in_ok-declarator.declarator c.closed.new.tokens) c.expect_right_paren.new.self c.in-Some.ensures c.in_ok-expect_right_paren.ensures c.in_ok-declarator.ensures.reads;
+          ∙ around_goes depth c.loop-opening.outer c.pop.new.self c.in-Some.opening (as_read c.loop-opening.declarator c.loop-opening.tokens) (as_read c.in_ok-left.next rest) c.in-Some.ensures reads
+          ∙ ap (λ os. around (suc depth) (expression depth) (declarator depth) os (Some (as_read c.in_ok-left.next rest))) (sym both.0);
     }
 
 pub returns-clause-reads : goal.returns-clause-reads
