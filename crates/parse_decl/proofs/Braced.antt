@@ -1,15 +1,16 @@
 -- The steps of the loop over what stands between braces.
-use Rattle.std.proofs.Common.{◌≡◌, ℕ, zero, suc, max, List, [], ◌∷◌, ◌++◌, Option, Some, None, Bool, true, false, refl, ap, ◌∙◌}
+use Rattle.std.proofs.Common.{◌≡◌, ℕ, zero, suc, max, List, [], ◌∷◌, ◌++◌, Option, Some, None, Bool, true, false, length, refl, ap, ◌∙◌}
 use Rattle.c_tokens.specs.declared.puncts.Punct.TheVariants as p
 use Rattle.c_tree.specs.declared.statements.Stmt.{Stmt}
+use Rattle.c_grammar.specs.declared.terminals.Keyword.TheVariants as w
 use Rattle.c_grammar.specs.declared.terminals.Terminal.TheVariants as k
 use Rattle.c_grammar.specs.Terminals.{Lexeme, at}
 use Rattle.c_grammar.specs.Reading.{Read, ◌>>=◌, found, prepended, expression}
-use Rattle.c_grammar.specs.ReadingStatements.{items, items_by, labelled, labelled_by, with_stmt, statement}
+use Rattle.c_grammar.specs.ReadingStatements.{items, items_by, labelled, labelled_by, with_stmt, statement, cases}
 use Rattle.parse_declarators.specs.Ends.{body_end_at}
 use Rattle.parse_decl.specs.declared.statements.Beside.{Beside}
 use Rattle.parse_decl.specs.declared.statements.Beside.TheVariants as beside
-use Rattle.parse_decl.specs.Lists.{item_of, stmts_of}
+use Rattle.parse_decl.specs.Lists.{item_of, stmts_of, begins_cases}
 use Rattle.parse_decl.specs.Readers.{locals}
 use Rattle.parse_tokens.proofs.Turns.{prepended-prepended, prepended_last}
 
@@ -71,3 +72,22 @@ module _ (n : ℕ) where
         go : (x : Option (Read Stmt)) → prepended xs h (with_next (λ t. None) x) ≡ None
         go None = refl
         go (Some x) = refl
+
+-- the labels and statements of a switch are those that a loop finds, if one may stand first
+module _ (n : ℕ) where
+  pub cases_begun : (s : List Lexeme) → begins_cases s ≡ true →
+      cases (expression n) (locals n) (statement n) s ≡ stmts_of n beside.Labels (suc (length s)) s
+  unfolding labelled with_stmt
+  cases_begun [] e = let other : false ≡ true = e in cc
+  cases_begun (at (k.Punct p.RightBrace) o ∷ t) e = refl
+  cases_begun (at (k.Word w.Case) o ∷ t) e = refl
+  cases_begun (at (k.Word w.Default) o ∷ t) e = refl
+  cases_begun (o ∷ t) e = let other : false ≡ true = e in cc
+
+  pub cases_none : (s : List Lexeme) → begins_cases s ≡ false → cases (expression n) (locals n) (statement n) s ≡ None
+  unfolding with_stmt
+  cases_none [] e = refl
+  cases_none (at (k.Punct p.RightBrace) o ∷ t) e = let other : true ≡ false = e in cc
+  cases_none (at (k.Word w.Case) o ∷ t) e = let other : true ≡ false = e in cc
+  cases_none (at (k.Word w.Default) o ∷ t) e = let other : true ≡ false = e in cc
+  cases_none (o ∷ t) e = refl

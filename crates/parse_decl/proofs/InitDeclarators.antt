@@ -86,6 +86,21 @@ module _ (named : List Lexeme → Option (Read Named)) (init : List Lexeme → O
       go None = refl
       go (Some xs) = init_completed x xs.0 xs.1
 
+  module _ (x : Named) (h : ℕ) (s : List Lexeme) where
+    pub from_no_lists : attribute_lists (length s) s ≡ None → init_declarator_from named init x h s ≡ None
+    unfolding init_declarator_from
+    from_no_lists none = rw none refl
+
+    module _ (xs : List (List Attribute)) (t : List Lexeme) where
+      pub from_no_init : attribute_lists (length s) s ≡ Some (xs, t) → init_at init t ≡ None → init_declarator_from named init x h s ≡ None
+      unfolding init_declarator_from
+      from_no_init lists none = rw (lists, none) refl
+
+      pub from_parts : (y : Read (Option Init)) → attribute_lists (length s) s ≡ Some (xs, t) → init_at init t ≡ Some y →
+          init_declarator_from named init x h s ≡ Some (found (as_init x.tree xs y.tree x.declared) (max h y.height) y.rest)
+      unfolding init_declarator_from
+      from_parts y lists some = rw (lists, some) refl
+
   pub from_first : (n : ℕ) (s : List Lexeme) (x : Read Named) → named s ≡ Some x → init_declarators named init n s ≡ init_declarators_from named init n x.tree x.height x.rest
   unfolding init_declarators init_declarator init_declarators_from
   from_first zero s x e = refl

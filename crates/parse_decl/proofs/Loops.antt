@@ -1,9 +1,9 @@
 -- What answers in loops share.
-use Rattle.std.proofs.Common.{◌≡◌, ◌≢◌, ◌≤◌, ℕ, zero, suc, List, [], ◌∷◌, length, take, Option, None, refl, sym, ap, ◌∙◌, arith}
-use Rattle.std.specs.Prelude.{Result, Ok, Err}
+use Rattle.std.proofs.Common.{◌≡◌, ◌≢◌, ◌≤◌, ℕ, zero, suc, List, [], ◌∷◌, length, take, Option, Some, None, refl, sym, ap, ◌∙◌, arith}
+use Rattle.std.specs.Prelude.{Result, Ok, Err, Bool, true, false, IfOk, IfErr, if◌then◌else◌}
 use Rattle.std.specs.Result.{IsErrAnd}
 use Rattle.c_grammar.specs.Terminals.{Lexeme}
-use Rattle.c_grammar.specs.Reading.{Read}
+use Rattle.c_grammar.specs.Reading.{Read, found}
 use Rattle.parse_tokens.specs.Gives.{Gives, GivesAs, GivesPart}
 use Rattle.parse_tokens.specs.declared.faults.ParseFault.{ParseFault}
 use Rattle.parse_tokens.specs.declared.faults.ParseFault.TheVariants as fault
@@ -30,3 +30,10 @@ pub err_gives_as : {X A : Type 0} (see : X → A) (read : Option (Read A)) (r : 
     IsErrAnd r (λ f. e ≡ f) → (e ≢ fault.NoMemory → read ≡ None) → GivesAs see read r new
 err_gives_as see read (Ok x) new e same none = absurd same
 err_gives_as see read (Err f) new e same none = λ other. none (λ is. other (sym same ∙ is))
+
+-- what a part is where it is kept if a test holds
+pub kept_gives_as : {X A : Type 0} (see : X → A) (read : Option (Read A)) (part : Tall X) (holds : Bool) (new : List Lexeme) (r : Result (Tall X) ParseFault) →
+    IfOk r (λ x. (x ≡ part) × (holds ≡ true)) → IfErr r (λ e. (e ≡ fault.NoDerivation) × (holds ≡ false)) →
+    read ≡ (if holds then Some (found (see part.tree) part.height new) else None) → GivesAs see read r new
+kept_gives_as see read part holds new (Ok x) ok err reads = rw ok.0 (reads ∙ ap (λ b. if b then Some (found (see part.tree) part.height new) else None) ok.1)
+kept_gives_as see read part holds new (Err e) ok err reads = λ _. reads ∙ ap (λ b. if b then Some (found (see part.tree) part.height new) else None) err.1

@@ -1,6 +1,6 @@
 //! Declarators with their initialisers, and the declarations of blocks (C11 6.7).
 
-ghost use Rattle.std.specs.Prelude.{◌≡◌, ◌<◌, ◌≤◌, ◌+◌, ◌*◌, ◌^◌, length, map};
+ghost use Rattle.std.specs.Prelude.{◌≡◌, ◌<◌, ◌≤◌, ◌+◌, ◌*◌, ◌^◌, max, length, map};
 ghost use Rattle.c_grammar.specs.Statements.{are_objects, is_object};
 ghost use Rattle.c_grammar.specs.ReadingDeclarators.{declarator};
 ghost use Rattle.c_grammar.specs.ReadingStatements as spec;
@@ -15,7 +15,7 @@ use c_tokens::Punct;
 use c_tree::{Attribute, Init, InitDeclarator, Spec};
 use parse_declarators::{Named, Nearest, declarator, take_declarators_end};
 use parse_parts::{Context, SpecList, attribute_list, plain_specs};
-use parse_tokens::{ParseFault, Tall, Tokens};
+use parse_tokens::{ParseFault, Tall, Tokens, both, kept};
 use sqlite_items::Items;
 use std::alloc::Global;
 
@@ -109,6 +109,32 @@ fn init_part(
     }
 }
 
+/// A declarator of its parts.
+fn initialised<'a>(
+    first: Tall<Named<'a>>,
+    attributes: Items<Items<Attribute>>,
+    init: Tall<Option<Init>>,
+) -> Tall<NamedInit<'a>>
+    ensures { result ≡ record { tree = record { tree = record { declarator = first.entry.tree.tree; attributes = attributes; init = init.tree }; declared = record { name = first.entry.tree.name; nearest = first.entry.tree.nearest } }; height = max first.entry.height init.height } }
+{
+    let Named {
+        tree,
+        name,
+        nearest,
+    } = first.tree;
+    Tall {
+        tree: NamedInit {
+            tree: InitDeclarator {
+                declarator: tree,
+                attributes,
+                init: init.tree,
+            },
+            declared: Declared { name, nearest },
+        },
+        height: first.height.max(init.height),
+    }
+}
+
 /// Attribute lists and an initialiser, behind their declarator.
 #[tactic(auto, unfolding(crate::specs::Readers::init_declarator_from))]
 fn init_declarator<'a>(
@@ -122,24 +148,12 @@ fn init_declarator<'a>(
     ensures reads { GivesAs init_of (init_declarator_from (declarator depth) (spec.initialiser depth) (named_of first.entry.tree) first.entry.height tokens.old) result tokens.new }
     ensures low { Within depth result }
 {
-    let attributes = attribute_lists(alloc, tokens)?;
-    let init = init_part(alloc, tokens, depth)?;
-    let Named {
-        tree,
-        name,
-        nearest,
-    } = first.tree;
-    Ok(Tall {
-        tree: NamedInit {
-            tree: InitDeclarator {
-                declarator: tree,
-                attributes,
-                init: init.tree,
-            },
-            declared: Declared { name, nearest },
-        },
-        height: first.height.max(init.height),
-    })
+    let lists = attribute_lists(alloc, tokens);
+    let (named, lists) = both(first, lists)?;
+    let init = init_part(alloc, tokens, depth);
+    let parts = both(lists, init);
+    let (declarator, (attributes, init)) = both(named, parts)?;
+    Ok(initialised(declarator, attributes, init))
 }
 
 /// `= 1, b, *c = &b;`, behind the first declarator, in at most so many turns.
@@ -196,6 +210,19 @@ fn are_objects(declared: &[Declared<'_>]) -> bool
     true
 }
 
+/// A declaration in a block of its parts.
+fn as_local(specs: Tall<SpecList>, declarators: Tall<Items<InitDeclarator>>) -> Tall<Local>
+    ensures { result ≡ record { tree = record { specs = specs.tree.specs; declarators = declarators.tree }; height = max specs.height declarators.height } }
+{
+    Tall {
+        height: specs.height.max(declarators.height),
+        tree: Local {
+            specs: specs.tree.specs,
+            declarators: declarators.tree,
+        },
+    }
+}
+
 /// A declaration in a block or in the head of a `for`, up to and with its semicolon.
 #[tactic(auto, unfolding(c_grammar::specs::ReadingStatements::local))]
 pub fn local_declaration(
@@ -207,23 +234,18 @@ pub fn local_declaration(
     ensures reads { GivesAs local_of (locals depth tokens.old) result tokens.new }
     ensures low { Within depth result }
 {
-    let specs = plain_specs(alloc, tokens, Context::Block)?;
+    let list = plain_specs(alloc, tokens, Context::Block)?;
     let turns = tokens.left();
-    let first = declarator(alloc, tokens, depth)?;
-    let Tall { tree, height } = init_declarators(alloc, tokens, depth, first, turns)?;
+    let first = declarator(alloc, tokens, depth);
+    let (listed, first) = both(list, first)?;
+    let found = init_declarators(alloc, tokens, depth, first, turns);
+    let (specs, Tall { tree, height }) = both(listed, found)?;
     let NamedInits { trees, declared } = tree;
-    if !are_objects(declared.as_slice()) {
-        return Err(ParseFault::NoDerivation);
-    }
-    let SpecList {
-        specs: list,
-        tally: _,
-    } = specs.tree;
-    Ok(Tall {
-        tree: Local {
-            specs: list,
-            declarators: trees,
-        },
-        height: specs.height.max(height),
-    })
+    let holds = are_objects(declared.as_slice());
+    let declarators = Tall {
+        tree: trees,
+        height,
+    };
+    let local = as_local(specs, declarators);
+    kept(local, holds)
 }

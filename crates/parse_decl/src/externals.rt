@@ -1,26 +1,27 @@
 //! External declarations (C11 6.9).
 
-ghost use Rattle.std.specs.Prelude.{◌≡◌, ◌<◌, ◌≤◌, ◌+◌, ◌*◌, ◌^◌, ℕ, suc, [], ◌∷◌, List, length, map, IfOk};
+ghost use Rattle.std.specs.Prelude.{◌≡◌, ◌<◌, ◌≤◌, ◌+◌, ◌*◌, ◌^◌, ℕ, suc, max, [], ◌∷◌, List, length, map, IfOk, IfErr};
 ghost use Rattle.c_grammar.specs.Terminals.{Lexeme, header_types};
 ghost use Rattle.c_grammar.specs.File.{type_names};
 ghost use Rattle.c_grammar.specs.Reading.{bounded, found};
 ghost use Rattle.c_grammar.specs.ReadingFile as spec;
 ghost use Rattle.parse_tokens.specs.Gives.{GivesAs};
+ghost use Rattle.parse_tokens.specs.declared.faults.ParseFault.TheVariants as fault;
 ghost use Rattle.parse_parts.specs.Counts.{specs_of, tally_of};
 ghost use Rattle.parse_declarators.specs.Named.{named_of};
 ghost use Rattle.parse_decl.specs.Declarations.{declared_of};
 ghost use Rattle.parse_decl.specs.Externals.{declared_from, external_of};
 ghost use Rattle.parse_decl.specs.Readers.{brace_at};
 
-use crate::declarations::{Declared, init_declarators};
+use crate::declarations::{Declared, NamedInits, init_declarators};
 use crate::statements::block_items;
 use c_grammar::Terminal;
 use c_tokens::{HeaderId, Punct, Token, TokenKind};
-use c_tree::{External, Stmt};
+use c_tree::{Declarator, External, InitDeclarator, Stmt};
 use fc_base::{NoMemory, Place, Text};
 use parse_declarators::{Named, declarator, outer_specs};
 use parse_parts::{SpecList, Tally};
-use parse_tokens::{ParseFault, Tall, Tokens};
+use parse_tokens::{ParseFault, Tall, Tokens, both, kept};
 use sqlite_items::Items;
 use std::alloc::Global;
 
@@ -91,25 +92,55 @@ fn type_names(
     alloc: Global,
     tally: Tally,
     declared: &[Declared<'_>],
-) -> Result<Items<Text>, NoMemory>
-    ensures { IfOk result (λ names. names ≡ type_names (tally_of tally) (map declared_of declared.now)) }
+) -> Result<Items<Text>, ParseFault>
+    ensures names { IfOk result (λ names. names ≡ type_names (tally_of tally) (map declared_of declared.now)) }
+    ensures memory { IfErr result (λ e. e ≡ fault.NoMemory) }
 {
     if tally.typedef == 0 {
         Ok(Items::new(alloc))
     } else {
-        names_of(alloc, declared)
+        let names = names_of(alloc, declared)?;
+        Ok(names)
     }
 }
 
-/// The declaration, if its tree is not too high.
-fn within(declaration: Tall<NamedExternal>, depth: usize) -> Result<Tall<NamedExternal>, ParseFault>
+/// The declaration with the names, if its tree is not too high.
+fn within(
+    declaration: Tall<External>,
+    names: Items<Text>,
+    depth: usize,
+) -> Result<Tall<NamedExternal>, ParseFault>
     requires { depth < 1000 }
-    ensures { (t : List Lexeme) → GivesAs external_of (bounded (suc depth) (found (external_of declaration.tree) declaration.height t)) result t }
+    ensures { (t : List Lexeme) → GivesAs external_of (bounded (suc depth) (found (spec.as_external declaration.tree names) declaration.height t)) result t }
 {
-    if declaration.height <= depth + 1 {
-        Ok(declaration)
-    } else {
-        Err(ParseFault::NoDerivation)
+    let is_low = declaration.height <= depth + 1;
+    let named = Tall {
+        tree: NamedExternal {
+            tree: declaration.tree,
+            names,
+        },
+        height: declaration.height,
+    };
+    kept(named, is_low)
+}
+
+/// A declaration of its parts (C11 6.7).
+fn declaration_of(
+    specs: Tall<SpecList>,
+    declarators: Tall<Items<InitDeclarator>>,
+    place: Place,
+) -> Tall<External>
+    requires specs { specs.height + 1 < 2 ^ 64 }
+    requires declarators { declarators.height + 1 < 2 ^ 64 }
+    ensures { result ≡ record { tree = External.Declaration specs.tree.specs declarators.tree place; height = suc (max specs.height declarators.height) } }
+{
+    Tall {
+        height: specs.height.max(declarators.height) + 1,
+        tree: External::Declaration {
+            specs: specs.tree.specs,
+            declarators: declarators.tree,
+            place,
+        },
     }
 }
 
@@ -128,20 +159,44 @@ fn declared<'a>(
     requires first_low { first.height ≤ depth + 2 ^ 63 }
     ensures { GivesAs external_of (declared_from depth place (specs_of specs.tree) specs.height turns (named_of first.entry.tree) first.entry.height tokens.old) result tokens.new }
 {
-    let Tall { tree, height } = init_declarators(alloc, tokens, depth, first, turns)?;
-    let names = type_names(alloc, specs.tree.tally, tree.declared.as_slice())?;
-    let found = Tall {
-        tree: NamedExternal {
-            tree: External::Declaration {
-                specs: specs.tree.specs,
-                declarators: tree.trees,
-                place,
-            },
-            names,
-        },
-        height: specs.height.max(height) + 1,
+    let inits = init_declarators(alloc, tokens, depth, first, turns);
+    let (specs, Tall { tree, height }) = both(specs, inits)?;
+    let NamedInits { trees, declared } = tree;
+    let names = type_names(alloc, specs.tree.tally, declared.as_slice());
+    let declarators = Tall {
+        tree: trees,
+        height,
     };
-    within(found, depth)
+    let declaration = declaration_of(specs, declarators, place);
+    let (declaration, names) = both(declaration, names)?;
+    within(declaration, names, depth)
+}
+
+/// A function of its parts (C11 6.9.1).
+fn function_of(
+    specs: Tall<SpecList>,
+    declarator: Tall<Declarator>,
+    items: Tall<Items<Stmt>>,
+    place: Place,
+    start: Place,
+) -> Tall<External>
+    requires specs { specs.height + 2 < 2 ^ 64 }
+    requires declarator { declarator.height + 2 < 2 ^ 64 }
+    requires items { items.height + 2 < 2 ^ 64 }
+    ensures { result ≡ record { tree = External.Function specs.tree.specs declarator.tree (Stmt.Block items.tree start) place; height = suc (max specs.height (max declarator.height (suc items.height))) } }
+{
+    Tall {
+        height: specs.height.max(declarator.height.max(items.height + 1)) + 1,
+        tree: External::Function {
+            specs: specs.tree.specs,
+            declarator: declarator.tree,
+            body: Stmt::Block {
+                items: items.tree,
+                place: start,
+            },
+            place,
+        },
+    }
 }
 
 /// A function, behind the brace of its body (C11 6.9.1).
@@ -159,29 +214,22 @@ fn function<'a>(
     requires first_low { first.height ≤ depth + 2 ^ 63 }
     ensures { GivesAs external_of (spec.body depth place (found (specs_of specs.tree) specs.height tokens.old) (found (named_of first.entry.tree) first.entry.height tokens.old) start tokens.old) result tokens.new }
 {
-    let items = block_items(alloc, tokens, depth)?;
+    let items = block_items(alloc, tokens, depth);
+    let parts = both(specs, items);
+    let (first, (specs, items)) = both(first, parts)?;
     let Named {
         tree,
         name,
         nearest,
     } = first.tree;
-    let names = type_names(alloc, specs.tree.tally, &[Declared { name, nearest }])?;
-    let found = Tall {
-        tree: NamedExternal {
-            tree: External::Function {
-                specs: specs.tree.specs,
-                declarator: tree,
-                body: Stmt::Block {
-                    items: items.tree,
-                    place: start,
-                },
-                place,
-            },
-            names,
-        },
-        height: specs.height.max(first.height.max(items.height + 1)) + 1,
+    let names = type_names(alloc, specs.tree.tally, &[Declared { name, nearest }]);
+    let declarator = Tall {
+        tree,
+        height: first.height,
     };
-    within(found, depth)
+    let function = function_of(specs, declarator, items, place, start);
+    let (function, names) = both(function, names)?;
+    within(function, names, depth)
 }
 
 /// Takes the brace that begins a body, if it comes next.
@@ -210,7 +258,8 @@ fn declaration(
     ensures { GivesAs external_of (spec.declaration depth place (found (specs_of specs.tree) specs.height tokens.old) tokens.old) result tokens.new }
 {
     let turns = tokens.left();
-    let first = declarator(alloc, tokens, depth)?;
+    let first = declarator(alloc, tokens, depth);
+    let (specs, first) = both(specs, first)?;
     let start = tokens.place();
     if takes_brace(tokens) {
         function(alloc, tokens, depth, specs, first, place, start)
@@ -230,18 +279,15 @@ fn undeclared(
     requires specs_low { specs.height ≤ depth + 2 ^ 63 }
     ensures { (t : List Lexeme) → GivesAs external_of (bounded (suc depth) (found (spec.as_external (External.Declaration specs.tree.specs [] place) []) (suc specs.height) t)) result t }
 {
-    let found = Tall {
-        tree: NamedExternal {
-            tree: External::Declaration {
-                specs: specs.tree.specs,
-                declarators: Items::new(alloc),
-                place,
-            },
-            names: Items::new(alloc),
+    let declaration = Tall {
+        tree: External::Declaration {
+            specs: specs.tree.specs,
+            declarators: Items::new(alloc),
+            place,
         },
         height: specs.height + 1,
     };
-    within(found, depth)
+    within(declaration, Items::new(alloc), depth)
 }
 
 #[tactic(auto, unfolding(c_grammar::specs::ReadingFile::specified))]

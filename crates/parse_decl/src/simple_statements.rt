@@ -4,6 +4,7 @@ ghost use Rattle.std.specs.Prelude.{◌≡◌, ◌<◌, ◌≤◌, ◌+◌, ◌*
 ghost use Rattle.c_grammar.specs.Reading.{expression};
 ghost use Rattle.c_grammar.specs.ReadingStatements as spec;
 ghost use Rattle.parse_tokens.specs.Gives.{Gives};
+ghost use Rattle.parse_decl.specs.Lists.{do_test_of};
 ghost use Rattle.parse_decl.specs.Readers.{Within, locals};
 
 use crate::declarations::local_declaration;
@@ -12,7 +13,7 @@ use c_grammar::{Keyword, Terminal};
 use c_tree::{Expr, ForHead, Stmt};
 use fc_base::Place;
 use parse_expr::{CONDITIONAL, EXPRESSION, expression};
-use parse_tokens::{ParseFault, Tall, Tokens, before_colon, before_right_paren};
+use parse_tokens::{ParseFault, Tall, Tokens, before_colon, before_right_paren, before_semicolon};
 use std::alloc::Global;
 
 /// `case 1:`, behind the word (C11 6.8.1).
@@ -141,6 +142,20 @@ pub fn condition(
     before_right_paren(tokens, found)
 }
 
+/// `while (a)`, behind the body of a `do` (C11 6.8.5.2).
+pub fn do_test(
+    alloc: Global,
+    tokens: &mut Tokens<'_>,
+    depth: usize,
+) -> Result<Tall<Expr>, ParseFault>
+    requires { depth < 1000 }
+    ensures reads { Gives (do_test_of depth tokens.old) result tokens.new }
+    ensures low { IfOk result (λ x. x.height ≤ depth) }
+{
+    tokens.expect_while()?;
+    condition(alloc, tokens, depth)
+}
+
 /// What stands first in the head of a `for`, with its semicolon (C11 6.8.5).
 #[tactic(auto, unfolding(c_grammar::specs::ReadingStatements::head_local))]
 fn head_local(
@@ -201,8 +216,7 @@ pub fn jump(tokens: &mut Tokens<'_>, depth: usize, tree: Stmt) -> Result<Tall<St
     ensures reads { Gives (spec.jump (expression depth) (locals depth) (spec.statement depth) tree tokens.old) result tokens.new }
     ensures low { IfOk result (λ x. x.height ≤ 1) }
 {
-    tokens.expect_semicolon()?;
-    Ok(Tall { tree, height: 1 })
+    before_semicolon(tokens, Tall { tree, height: 1 })
 }
 
 /// `return a;` or `return;`, behind the word (C11 6.8.6.4).

@@ -7,20 +7,20 @@ ghost use Rattle.c_grammar.specs.Terminals.{Lexeme, at};
 ghost use Rattle.c_grammar.specs.Reading.{expression, prepended};
 ghost use Rattle.c_grammar.specs.ReadingStatements as spec;
 ghost use Rattle.parse_tokens.specs.Gives.{Gives};
-ghost use Rattle.parse_decl.specs.Lists.{item_of, stmts_of};
+ghost use Rattle.parse_decl.specs.Lists.{item_of, stmts_of, begins_cases, braced_cases_of};
 ghost use Rattle.parse_decl.specs.Nests.{Nests};
 ghost use Rattle.parse_decl.specs.Readers.{Within, locals};
 
 use crate::optional::{End, optional};
 use crate::simple_statements::{
-    begins_label, condition, declared_item, evaluation, for_head, jump, label, returned,
+    begins_label, condition, declared_item, do_test, evaluation, for_head, jump, label, returned,
 };
 use c_grammar::{Keyword, Terminal};
 use c_tokens::Punct;
 use c_tree::{Expr, Stmt};
 use fc_base::Place;
 use parse_declarators::take_body_end;
-use parse_tokens::{ParseFault, Tall, Tokens};
+use parse_tokens::{ParseFault, Tall, Tokens, before_semicolon, both};
 use sqlite_items::{Boxed, Items};
 use std::alloc::Global;
 
@@ -39,6 +39,16 @@ pub struct Statements<F> {
     pub deep: F,
 }
 
+/// Whether the next token begins what may stand first in the braces of a switch, or closes them.
+fn begins_cases(tokens: &Tokens<'_>) -> bool
+    ensures { result ≡ begins_cases tokens.now }
+{
+    matches!(
+        tokens.peek(),
+        Some(Terminal::Punct(Punct::RightBrace) | Terminal::Word(Keyword::Case | Keyword::Default))
+    )
+}
+
 impl<F: Fn(Global, &mut Tokens<'_>, usize) -> Result<Tall<Stmt>, ParseFault>> Statements<F> {
     fn sub(&self, tokens: &mut Tokens<'_>) -> Result<Tall<Stmt>, ParseFault>
         requires { Nests spec.statement self.now.depth (F.pre self.now.deep) (F.post self.now.deep) }
@@ -47,6 +57,19 @@ impl<F: Fn(Global, &mut Tokens<'_>, usize) -> Result<Tall<Stmt>, ParseFault>> St
         ensures few { self.now.depth + 1 < 1000 }
     {
         (self.deep)(self.alloc, tokens, self.depth)
+    }
+
+    /// A statement that is a part of another one.
+    fn part(&self, tokens: &mut Tokens<'_>) -> Result<Tall<Boxed<Stmt>>, ParseFault>
+        requires { Nests spec.statement self.now.depth (F.pre self.now.deep) (F.post self.now.deep) }
+        ensures reads { Gives (spec.statement self.now.depth tokens.old) result tokens.new }
+        ensures low { Within self.now.depth result }
+    {
+        let Tall { tree, height } = self.sub(tokens)?;
+        Ok(Tall {
+            tree: Boxed::new(self.alloc, tree)?,
+            height,
+        })
     }
 
     /// One of what stands between braces.
@@ -111,11 +134,11 @@ impl<F: Fn(Global, &mut Tokens<'_>, usize) -> Result<Tall<Stmt>, ParseFault>> St
         ensures reads { Gives (spec.items (expression self.now.depth) (locals self.now.depth) (spec.statement self.now.depth) (length tokens.old) tokens.old) result tokens.new }
         ensures low { IfOk result (λ x. x.height ≤ 2 * self.now.depth + 1 + 2 ^ 63) }
     {
+        let turns = tokens.left();
         let nothing = Tall {
             tree: Items::new(self.alloc),
             height: 0,
         };
-        let turns = tokens.left();
         self.braced(tokens, Beside::Declarations, nothing, turns)
     }
 
@@ -135,40 +158,31 @@ impl<F: Fn(Global, &mut Tokens<'_>, usize) -> Result<Tall<Stmt>, ParseFault>> St
         })
     }
 
-    /// A label, and what stands behind it in the braces of a switch.
-    #[tactic(auto, unfolding(c_grammar::specs::ReadingStatements::with_stmt))]
-    fn some_cases(&self, tokens: &mut Tokens<'_>) -> Result<Tall<Items<Stmt>>, ParseFault>
-        requires { Nests spec.statement self.now.depth (F.pre self.now.deep) (F.post self.now.deep) }
-        ensures reads { Gives (spec.with_stmt (expression self.now.depth) (locals self.now.depth) (spec.statement self.now.depth) (spec.labelled (expression self.now.depth) (locals self.now.depth) (spec.statement self.now.depth) (length tokens.old)) (spec.label (expression self.now.depth) (locals self.now.depth) (spec.statement self.now.depth) tokens.old)) result tokens.new }
-        ensures low { IfOk result (λ x. x.height ≤ 2 * self.now.depth + 1 + 2 ^ 63) }
-    {
-        let turns = tokens.left();
-        let Tall { tree, height } = label(self.alloc, tokens, self.depth)?;
-        let mut trees = Items::new(self.alloc);
-        trees.push(tree)?;
-        let first = Tall {
-            tree: trees,
-            height,
-        };
-        self.braced(tokens, Beside::Labels, first, turns)
-    }
-
     /// The labels and statements of a switch, behind its brace: the first of them is a label.
     fn cases(&self, tokens: &mut Tokens<'_>) -> Result<Tall<Items<Stmt>>, ParseFault>
         requires { Nests spec.statement self.now.depth (F.pre self.now.deep) (F.post self.now.deep) }
         ensures reads { Gives (spec.cases (expression self.now.depth) (locals self.now.depth) (spec.statement self.now.depth) tokens.old) result tokens.new }
         ensures low { IfOk result (λ x. x.height ≤ 2 * self.now.depth + 1 + 2 ^ 63) }
     {
-        match tokens.peek() {
-            Some(Terminal::Punct(Punct::RightBrace)) => {
-                tokens.next();
-                Ok(Tall {
-                    tree: Items::new(self.alloc),
-                    height: 0,
-                })
-            }
-            _ => self.some_cases(tokens),
+        if !begins_cases(tokens) {
+            return Err(ParseFault::NoDerivation);
         }
+        let turns = tokens.left() + 1;
+        let nothing = Tall {
+            tree: Items::new(self.alloc),
+            height: 0,
+        };
+        self.braced(tokens, Beside::Labels, nothing, turns)
+    }
+
+    /// The same, with the brace that begins them.
+    fn braced_cases(&self, tokens: &mut Tokens<'_>) -> Result<Tall<Items<Stmt>>, ParseFault>
+        requires { Nests spec.statement self.now.depth (F.pre self.now.deep) (F.post self.now.deep) }
+        ensures reads { Gives (braced_cases_of self.now.depth tokens.old) result tokens.new }
+        ensures low { IfOk result (λ x. x.height ≤ 2 * self.now.depth + 1 + 2 ^ 63) }
+    {
+        tokens.expect_left_brace()?;
+        self.cases(tokens)
     }
 
     /// `else` and its statement, or nothing, behind what an `if` begins with (C11 6.8.4.1).
@@ -176,7 +190,7 @@ impl<F: Fn(Global, &mut Tokens<'_>, usize) -> Result<Tall<Stmt>, ParseFault>> St
         &self,
         tokens: &mut Tokens<'_>,
         test: Tall<Expr>,
-        yes: Tall<Stmt>,
+        yes: Tall<Boxed<Stmt>>,
         place: Place,
     ) -> Result<Tall<Stmt>, ParseFault>
         requires nests { Nests spec.statement self.now.depth (F.pre self.now.deep) (F.post self.now.deep) }
@@ -188,25 +202,26 @@ impl<F: Fn(Global, &mut Tokens<'_>, usize) -> Result<Tall<Stmt>, ParseFault>> St
         match tokens.peek() {
             Some(Terminal::Word(Keyword::Else)) => {
                 tokens.next();
-                let no = self.sub(tokens)?;
+                let no = self.part(tokens);
+                let ((test, yes), no) = both((test, yes), no)?;
                 Ok(Tall {
+                    height: test.height.max(yes.height.max(no.height)) + 1,
                     tree: Stmt::If {
                         test: test.tree,
-                        yes: Boxed::new(self.alloc, yes.tree)?,
-                        no: Some(Boxed::new(self.alloc, no.tree)?),
+                        yes: yes.tree,
+                        no: Some(no.tree),
                         place,
                     },
-                    height: test.height.max(yes.height.max(no.height)) + 1,
                 })
             }
             _ => Ok(Tall {
+                height: test.height.max(yes.height) + 1,
                 tree: Stmt::If {
                     test: test.tree,
-                    yes: Boxed::new(self.alloc, yes.tree)?,
+                    yes: yes.tree,
                     no: None,
                     place,
                 },
-                height: test.height.max(yes.height) + 1,
             }),
         }
     }
@@ -218,7 +233,8 @@ impl<F: Fn(Global, &mut Tokens<'_>, usize) -> Result<Tall<Stmt>, ParseFault>> St
         ensures low { Within (self.now.depth + 1) result }
     {
         let test = condition(self.alloc, tokens, self.depth)?;
-        let yes = self.sub(tokens)?;
+        let yes = self.part(tokens);
+        let (test, yes) = both(test, yes)?;
         self.otherwise(tokens, test, yes, place)
     }
 
@@ -234,15 +250,15 @@ impl<F: Fn(Global, &mut Tokens<'_>, usize) -> Result<Tall<Stmt>, ParseFault>> St
         ensures low { Within (self.now.depth + 1) result }
     {
         let subject = condition(self.alloc, tokens, self.depth)?;
-        tokens.expect_left_brace()?;
-        let found = self.cases(tokens)?;
+        let found = self.braced_cases(tokens);
+        let (subject, found) = both(subject, found)?;
         Ok(Tall {
+            height: subject.height.max(found.height) + 1,
             tree: Stmt::Switch {
                 subject: subject.tree,
                 items: found.tree,
                 place,
             },
-            height: subject.height.max(found.height) + 1,
         })
     }
 
@@ -258,14 +274,15 @@ impl<F: Fn(Global, &mut Tokens<'_>, usize) -> Result<Tall<Stmt>, ParseFault>> St
         ensures low { Within (self.now.depth + 1) result }
     {
         let test = condition(self.alloc, tokens, self.depth)?;
-        let body = self.sub(tokens)?;
+        let body = self.part(tokens);
+        let (test, body) = both(test, body)?;
         Ok(Tall {
+            height: test.height.max(body.height) + 1,
             tree: Stmt::While {
                 test: test.tree,
-                body: Boxed::new(self.alloc, body.tree)?,
+                body: body.tree,
                 place,
             },
-            height: test.height.max(body.height) + 1,
         })
     }
 
@@ -275,18 +292,18 @@ impl<F: Fn(Global, &mut Tokens<'_>, usize) -> Result<Tall<Stmt>, ParseFault>> St
         ensures reads { Gives (spec.do_read (expression self.now.depth) (locals self.now.depth) (spec.statement self.now.depth) place tokens.old) result tokens.new }
         ensures low { Within (self.now.depth + 1) result }
     {
-        let body = self.sub(tokens)?;
-        tokens.expect_while()?;
-        let test = condition(self.alloc, tokens, self.depth)?;
-        tokens.expect_semicolon()?;
-        Ok(Tall {
+        let body = self.part(tokens)?;
+        let test = do_test(self.alloc, tokens, self.depth);
+        let (body, test) = both(body, test)?;
+        let found = Tall {
+            height: body.height.max(test.height) + 1,
             tree: Stmt::Do {
-                body: Boxed::new(self.alloc, body.tree)?,
+                body: body.tree,
                 test: test.tree,
                 place,
             },
-            height: body.height.max(test.height) + 1,
-        })
+        };
+        before_semicolon(tokens, found)
     }
 
     #[tactic(auto, unfolding(c_grammar::specs::ReadingStatements::for_read))]
@@ -297,19 +314,22 @@ impl<F: Fn(Global, &mut Tokens<'_>, usize) -> Result<Tall<Stmt>, ParseFault>> St
     {
         tokens.expect_left_paren()?;
         let head = for_head(self.alloc, tokens, self.depth)?;
-        let test = optional(self.alloc, tokens, self.depth, End::Semicolon)?;
-        let step = optional(self.alloc, tokens, self.depth, End::RightParen)?;
-        let body = self.sub(tokens)?;
+        let test = optional(self.alloc, tokens, self.depth, End::Semicolon);
+        let (head, test) = both(head, test)?;
+        let step = optional(self.alloc, tokens, self.depth, End::RightParen);
+        let ((head, test), step) = both((head, test), step)?;
+        let body = self.part(tokens);
+        let ((head, test, step), body) = both((head, test, step), body)?;
         let height = test.height.max(step.height.max(body.height));
         Ok(Tall {
+            height: head.height.max(height) + 1,
             tree: Stmt::For {
                 head: head.tree,
                 test: test.tree,
                 step: step.tree,
-                body: Boxed::new(self.alloc, body.tree)?,
+                body: body.tree,
                 place,
             },
-            height: head.height.max(height) + 1,
         })
     }
 

@@ -1,5 +1,5 @@
 use Rattle.std.proofs.Common.{◌≡◌, ◌≢◌, ℕ, false, List, [], ◌∷◌, map, refl, ap, ◌∙◌, arith}
-use Rattle.std.specs.Prelude.{◌==◌, Result, Ok, Err, IfOk}
+use Rattle.std.specs.Prelude.{◌==◌}
 use Rattle.std.proofs.lemmas.Bool.Decides.{nat_tests}
 use Rattle.c_grammar.specs.File.{type_names}
 use Rattle.parse_parts.specs.Counts.{tally_of}
@@ -18,9 +18,5 @@ names_declared (x ∷ xs) = ap (λ l. x.name.now ∷ l) (names_declared xs)
 types_declared : (a : Tally) (xs : List Declared) → a.typedef ≢ 0 → map (λ (one : Declared). one.name.now) xs ≡ type_names (tally_of a) (map declared_of xs)
 types_declared a xs some = rw (other_number a.typedef some) (names_declared xs)
 
-ok_along : {A E : Type 0} (r : Result A E) (x y : A) → x ≡ y → IfOk r (λ z. z ≡ x) → IfOk r (λ z. z ≡ y)
-ok_along (Ok z) x y e is = is ∙ e
-ok_along (Err f) x y e is = is
-
-pub returns-else-tally-eq0 : goal.returns-else-tally-eq0
-returns-else-tally-eq0 c = ok_along _ _ _ (types_declared c.args.tally c.args.declared.now c.if-tally-eq0.false) c.names_of.ensures
+pub returns-in_ok-names-clause-names : goal.returns-in_ok-names-clause-names
+returns-in_ok-names-clause-names c = c.in_ok-names.ensures ∙ types_declared c.args.tally c.args.declared.now c.if-tally-eq0.false
