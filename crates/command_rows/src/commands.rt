@@ -1,5 +1,6 @@
 //! Whole commands over a store, a source and sinks in memory.
 
+use crate::values::assert_same;
 use fc_base::{End, MemSink, MemSource, MemStore, NoMemory, Place, Refusal, Rule, Words};
 use fort_driver::{Outcome, fort};
 use std::alloc::Global;
@@ -21,7 +22,34 @@ fn words_of(alloc: Global, list: &[&str]) -> Result<Words, NoMemory> {
     Ok(words)
 }
 
-/// What the words come to over the store and err. Asserts that out is left empty.
+/// What the words come to over the store, the input and err. Asserts that out is left empty.
+fn outcome_of_input(
+    rt: &impl Abort,
+    alloc: Global,
+    words: &Words,
+    store: &mut MemStore,
+    input: &mut MemSource,
+    err: &mut MemSink,
+) -> Result<Outcome, NoMemory> {
+    let mut out = MemSink::sized(alloc, 0)?;
+    let outcome = fort(alloc, words, store, input, &mut out, err);
+    assert_same(rt, out.bytes().len(), 0);
+    Ok(outcome)
+}
+
+/// The same with an input.
+fn outcome_of_words(
+    rt: &impl Abort,
+    alloc: Global,
+    words: &Words,
+    store: &mut MemStore,
+    err: &mut MemSink,
+) -> Result<Outcome, NoMemory> {
+    let mut input = MemSource::new(alloc, b"unread")?;
+    outcome_of_input(rt, alloc, words, store, &mut input, err)
+}
+
+/// The same of a list of words.
 fn outcome_of(
     rt: &impl Abort,
     alloc: Global,
@@ -30,30 +58,51 @@ fn outcome_of(
     err: &mut MemSink,
 ) -> Result<Outcome, NoMemory> {
     let words = words_of(alloc, list)?;
-    let mut input = MemSource::new(alloc, b"unread")?;
-    let mut out = MemSink::sized(alloc, 0)?;
-    let outcome = fort(alloc, &words, store, &mut input, &mut out, err);
-    assert_eq!(rt; out.bytes().len(), 0);
-    Ok(outcome)
+    outcome_of_words(rt, alloc, &words, store, err)
+}
+
+/// Asserts what the words come to with an err that has no room.
+fn assert_outcome(
+    rt: &impl Abort,
+    alloc: Global,
+    list: &[&str],
+    store: &mut MemStore,
+    outcome: Outcome,
+) -> Result<(), NoMemory> {
+    let mut err = MemSink::sized(alloc, 0)?;
+    let found = outcome_of(rt, alloc, list, store, &mut err);
+    drop(err);
+    assert_same(rt, found?, outcome);
+    Ok(())
 }
 
 /// The outcome, what err then holds, and whether an image is kept.
 type Answer = (Outcome, &'static [u8], bool);
 
-/// Asserts the answer of `run a.c a.img` over the store, with an err of that room.
+/// Asserts the answer of `run a.c a.img` over the store and err.
+fn assert_answer(
+    rt: &impl Abort,
+    alloc: Global,
+    store: &mut MemStore,
+    err: &mut MemSink,
+    answer: Answer,
+) -> Result<(), NoMemory> {
+    let outcome = outcome_of(rt, alloc, &["run", "a.c", "a.img"], store, err)?;
+    let found = (outcome, err.bytes(), store.bytes("a.img").is_some());
+    assert_same(rt, found, answer);
+    Ok(())
+}
+
+/// The same with an err of that room.
 fn assert_run(
     rt: &impl Abort,
     alloc: Global,
     store: &mut MemStore,
     room: usize,
-    (outcome, written, is_kept): Answer,
+    answer: Answer,
 ) -> Result<(), NoMemory> {
     let mut err = MemSink::sized(alloc, room)?;
-    let found = outcome_of(rt, alloc, &["run", "a.c", "a.img"], store, &mut err)?;
-    assert!(rt; found == outcome);
-    assert_eq!(rt; err.bytes(), written);
-    assert_eq!(rt; store.bytes("a.img").is_some(), is_kept);
-    Ok(())
+    assert_answer(rt, alloc, store, &mut err, answer)
 }
 
 /// The same where the store holds the source.
@@ -231,10 +280,7 @@ const USAGE: &[&[&str]] = &[
 
 fn assert_usage(rt: &impl Abort, alloc: Global, list: &[&str]) -> Result<(), NoMemory> {
     let mut store = MemStore::new(alloc);
-    let mut err = MemSink::sized(alloc, 0)?;
-    let outcome = outcome_of(rt, alloc, list, &mut store, &mut err)?;
-    assert!(rt; outcome == Outcome::Usage);
-    Ok(())
+    assert_outcome(rt, alloc, list, &mut store, Outcome::Usage)
 }
 
 #[test]
@@ -265,15 +311,14 @@ const IMAGE: &[u8] = b"FC3IMAGE\x01\0\0\0\x01\0\0\0\x0b\0\0\0\0\0\0\0\0\0\0\0\0\
     \x27\0\0\0\0\0\0\0\0\0\0\0\0\0\0\0";
 
 fn assert_kept(rt: &impl Abort, store: &MemStore, name: &str, bytes: &[u8]) {
-    assert_eq!(rt; store.bytes(name), Some(bytes));
+    assert_same(rt, store.bytes(name), Some(bytes));
 }
 
 /// Asserts that `run a b` keeps the image of what stands under the first name under the second.
 fn assert_image(rt: &impl Abort, alloc: Global, store: &mut MemStore) -> Result<(), NoMemory> {
     store.put("a", FORM)?;
-    let mut err = MemSink::sized(alloc, 0)?;
-    let outcome = outcome_of(rt, alloc, &["run", "a", "b"], store, &mut err)?;
-    assert!(rt; outcome == Outcome::Ran(End::Exit(3)));
+    let exits = Outcome::Ran(End::Exit(3));
+    assert_outcome(rt, alloc, &["run", "a", "b"], store, exits)?;
     assert_kept(rt, store, "b", IMAGE);
     Ok(())
 }

@@ -10,3 +10,5 @@ mod machines;
 mod outcomes;
 #[cfg(test)]
 mod sources;
+#[cfg(test)]
+mod values;

@@ -1,5 +1,6 @@
 //! What a machine that is opened does when it runs.
 
+use crate::values::assert_same;
 use bm_isa::Instr;
 use byte_machine::{FnRec, Image, Machine, Stop};
 use fc_base::{End, MemSink, MemSource, Words};
@@ -31,6 +32,6 @@ fn exits_with_what_it_returns(rt: HostRuntime) -> Result<(), Fail> {
     let mut out = MemSink::sized(alloc, 0)?;
     let mut err = MemSink::sized(alloc, 0)?;
     let stop = machine.run(&mut input, &mut out, &mut err, 10);
-    assert_eq!(rt; stop, Stop::Ended(End::Exit(3)));
+    assert_same(&rt, stop, Stop::Ended(End::Exit(3)));
     Ok(())
 }

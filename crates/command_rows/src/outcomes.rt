@@ -1,5 +1,6 @@
 //! The outcomes of commands with their statuses and lines.
 
+use crate::values::assert_same;
 use fc_base::{End, NoMemory, Place, Refusal, Rule, UndefKind};
 use fort_driver::{Outcome, fault_line, status};
 use std::alloc::Global;
@@ -12,9 +13,9 @@ fn assert_outcome(
     alloc: Global,
     &(outcome, code, line): &(Outcome, u8, &str),
 ) -> Result<(), NoMemory> {
-    assert_eq!(rt; status(&outcome), code);
     let text = fault_line(alloc, &outcome)?;
-    assert_eq!(rt; text.bytes(), line.as_bytes());
+    let wanted = (code, line.as_bytes());
+    assert_same(rt, (status(&outcome), text.bytes()), wanted);
     Ok(())
 }
 

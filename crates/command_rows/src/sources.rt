@@ -1,25 +1,32 @@
 //! Sources with their form or refusal, worked out by hand from C11 6.4 to 6.10 and from the rules of the subset.
 
+use crate::values::assert_same;
 use c_front::{Form, read_source};
 use fc_base::{Fault, Level, NoMemory, Place, Refusal};
-use std::alloc::Global;
+use std::alloc::{AllocError, Global};
 use std::process::Abort;
 use std::test::Fail;
 
-/// The form's numbers and the place of its call, or the rule that is broken and where.
-fn push_outcome(out: &mut String, outcome: &Result<Form, Fault>) -> Result<(), NoMemory> {
+/// The form's numbers and the place of its call.
+fn push_form(out: &mut String, form: &Form) -> Result<(), AllocError> {
+    let Place { line, col } = form.call;
+    write!(out, "{} {} {}", form.size, form.byte, form.count)?;
+    write!(out, " {} {line}:{col}", form.result)
+}
+
+/// The rule that is broken, and where.
+fn push_refusal(out: &mut String, refusal: Refusal) -> Result<(), AllocError> {
+    let Refusal { rule, place } = refusal;
+    write!(out, "{} {}:{}", rule.name(), place.line, place.col)
+}
+
+/// The form or the refusal.
+fn push_outcome(out: &mut String, outcome: &Result<Form, Fault>) -> Result<(), AllocError> {
     match outcome {
-        Ok(form) => {
-            let Place { line, col } = form.call;
-            write!(out, "{} {} {}", form.size, form.byte, form.count)?;
-            write!(out, " {} {line}:{col}", form.result)?;
-        }
-        Err(Fault::Refused(Refusal { rule, place })) => {
-            write!(out, "{} {}:{}", rule.name(), place.line, place.col)?;
-        }
-        Err(Fault::NoMemory) => out.push_str("no memory")?,
+        Ok(form) => push_form(out, form),
+        Err(Fault::Refused(refusal)) => push_refusal(out, *refusal),
+        Err(Fault::NoMemory) => out.push_str("no memory"),
     }
-    Ok(())
 }
 
 /// What a source that is not too long comes to.
@@ -28,7 +35,7 @@ fn push_source(
     alloc: Global,
     source: &[u8],
     level: Level,
-) -> Result<(), NoMemory> {
+) -> Result<(), AllocError> {
     if source.len() < 4_294_967_295 {
         push_outcome(out, &read_source(alloc, source, level))
     } else {
@@ -46,7 +53,7 @@ fn assert_read(
 ) -> Result<(), NoMemory> {
     let mut out = String::new(alloc);
     push_source(&mut out, alloc, source, level)?;
-    assert_eq!(rt; out.as_str(), want);
+    assert_same(rt, out.as_str(), want);
     Ok(())
 }
 
