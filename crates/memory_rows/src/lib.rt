@@ -6,3 +6,5 @@
 mod stores;
 #[cfg(test)]
 mod streams;
+#[cfg(test)]
+mod values;

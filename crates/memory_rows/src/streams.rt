@@ -1,5 +1,6 @@
 //! Sources that give their bytes up to a failure or the end, and sinks that take what they have room for.
 
+use crate::values::assert_same;
 use fc_base::{Failed, MemSink, MemSource, NoMemory, Sink, Source};
 use std::alloc::Global;
 use std::process::Abort;
@@ -18,7 +19,8 @@ fn assert_read(
     buf: &mut [u8],
     answer: Result<usize, Failed>,
 ) {
-    assert_eq!(rt; source.read(buf), answer);
+    let room = buf.len();
+    assert_same(rt, room, source.read(buf), answer);
 }
 
 fn assert_reads(rt: &impl Abort, failing: &mut MemSource, whole: &mut MemSource) {
@@ -28,8 +30,8 @@ fn assert_reads(rt: &impl Abort, failing: &mut MemSource, whole: &mut MemSource)
         assert_read(rt, whole, &mut buf, of_whole);
     }
     assert_read(rt, failing, &mut [], Ok(0));
-    assert_eq!(rt; (failing.faults(), whole.faults()), (2, 0));
-    assert_eq!(rt; buf, *b"dbc");
+    assert_same(rt, "faults", (failing.faults(), whole.faults()), (2, 0));
+    assert_same(rt, "bytes", buf, *b"dbc");
 }
 
 #[test]
@@ -51,8 +53,8 @@ const WRITTEN: &[(usize, &[u8], &[u8])] = &[
 
 /// Asserts whether a write of the piece fails, and what the sink then holds.
 fn assert_write(rt: &impl Abort, sink: &mut MemSink, room: usize, fails: bool, bytes: &[u8]) {
-    assert_eq!(rt; sink.write(b"abc").is_err(), fails, "{room}");
-    assert_eq!(rt; sink.bytes(), bytes, "{room}");
+    let failed = sink.write(b"abc").is_err();
+    assert_same(rt, room, (failed, sink.bytes()), (fails, bytes));
 }
 
 fn assert_written(
