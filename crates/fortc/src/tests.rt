@@ -3,6 +3,7 @@
 use super::*;
 use fc_base::{Failed, FetchFault, KeepFault, Source, Store};
 use std::alloc::Global;
+use std::fmt::{Debug, Display};
 use std::io::{Error, Read, Write};
 use std::process::Abort;
 use std::rt::Files;
@@ -58,6 +59,17 @@ impl Write for FitfulWriter {
     }
 }
 
+/// Asserts that what was found of a row is what is wanted. No test compares but through this: a comparison that prints
+/// both values is dear to prove wherever it stands.
+fn assert_same<N: Copy + Display, T: Copy + Debug + PartialEq>(
+    rt: &impl Abort,
+    row: N,
+    found: T,
+    wanted: T,
+) {
+    assert_eq!(rt; found, wanted, "{row}");
+}
+
 /// How many bytes are kept and fetched.
 const LENGTHS: &[usize] = &[0, 1, 4095, 4096, 4097, 10000];
 
@@ -69,7 +81,8 @@ fn assert_fetched<R: Files>(
     name: &str,
     bytes: &[u8],
 ) -> Result<(), FetchFault> {
-    assert_eq!(rt; store.fetch(alloc, name, bytes.len())?.as_slice(), bytes);
+    let found = store.fetch(alloc, name, bytes.len())?;
+    assert_same(rt, name, found.as_slice(), bytes);
     Ok(())
 }
 
@@ -82,15 +95,31 @@ fn assert_not_fetched<R: Files>(
     max: usize,
     fault: FetchFault,
 ) {
-    assert_eq!(rt; store.fetch(alloc, name, max), Err(fault), "{name}");
+    assert_same(rt, name, store.fetch(alloc, name, max).err(), Some(fault));
 }
 
 fn assert_not_kept<R: Files>(rt: &impl Abort, alloc: Global, store: &mut FileStore<R>, name: &str) {
     let kept = store.keep(alloc, name, b"x");
-    assert_eq!(rt; kept, Err(KeepFault::Failed), "{name}");
+    assert_same(rt, name, kept, Err(KeepFault::Failed));
 }
 
-/// Asserts that so many bytes are kept and fetched, and not where fewer may be.
+/// Asserts that the bytes are kept and fetched, and not where fewer may be.
+fn assert_bytes_kept<R: Files>(
+    rt: &impl Abort,
+    alloc: Global,
+    store: &mut FileStore<R>,
+    name: &str,
+    bytes: &[u8],
+) -> Result<(), Fail> {
+    store.keep(alloc, name, bytes)?;
+    assert_fetched(rt, alloc, store, name, bytes)?;
+    if bytes.len() > 0 {
+        assert_not_fetched(rt, alloc, store, name, bytes.len() - 1, FetchFault::TooLong);
+    }
+    Ok(())
+}
+
+/// Asserts the same of so many bytes.
 fn assert_kept<R: Files>(
     rt: &impl Abort,
     alloc: Global,
@@ -99,12 +128,7 @@ fn assert_kept<R: Files>(
     length: usize,
 ) -> Result<(), Fail> {
     let bytes = vec![in alloc; 7u8; length]?;
-    store.keep(alloc, name, &bytes)?;
-    assert_fetched(rt, alloc, store, name, &bytes)?;
-    if length > 0 {
-        assert_not_fetched(rt, alloc, store, name, length - 1, FetchFault::TooLong);
-    }
-    Ok(())
+    assert_bytes_kept(rt, alloc, store, name, &bytes)
 }
 
 /// Asserts how often a fetch and a keep of the name failed.
@@ -115,8 +139,37 @@ fn assert_faults<R: Files>(
     fetch_faults: u64,
     keep_faults: u64,
 ) {
-    assert_eq!(rt; store.fetch_faults(name), fetch_faults);
-    assert_eq!(rt; store.keep_faults(name), keep_faults);
+    let found = (store.fetch_faults(name), store.keep_faults(name));
+    assert_same(rt, name, found, (fetch_faults, keep_faults));
+}
+
+/// Asserts that each of the lengths is kept and fetched.
+fn assert_lengths<R: Files>(
+    rt: &impl Abort,
+    alloc: Global,
+    store: &mut FileStore<R>,
+    name: &str,
+) -> Result<(), Fail> {
+    for &length in LENGTHS {
+        assert_kept(rt, alloc, store, name, length)?;
+    }
+    Ok(())
+}
+
+/// Asserts of names under which there is no file, and of which nothing has been asked, that a fetch and a keep fail.
+fn assert_missing<R: Files>(
+    rt: &impl Abort,
+    alloc: Global,
+    store: &mut FileStore<R>,
+    names: &[&str],
+) {
+    for &name in names {
+        assert_not_fetched(rt, alloc, store, name, 10, FetchFault::Failed);
+        assert_not_kept(rt, alloc, store, name);
+    }
+    for &name in names {
+        assert_faults(rt, store, name, 1, 1);
+    }
 }
 
 /// Keeps files under the name and removes them, and then asks for it, for a file in no folder and for the folder.
@@ -128,39 +181,55 @@ fn assert_files<R: Abort + Files, F: Files>(
     nowhere: &str,
     folder: &str,
 ) -> Result<(), Fail> {
-    for &length in LENGTHS {
-        assert_kept(rt, alloc, store, name, length)?;
-    }
+    assert_lengths(rt, alloc, store, name)?;
     fs::remove_file(rt, name)?;
     assert_faults(rt, store, name, 0, 0);
-    for missing in [name, name, nowhere, folder] {
-        assert_not_fetched(rt, alloc, store, missing, 10, FetchFault::Failed);
+    for _ in 0..2 {
+        assert_not_fetched(rt, alloc, store, name, 10, FetchFault::Failed);
     }
-    for missing in [nowhere, folder] {
-        assert_not_kept(rt, alloc, store, missing);
-    }
+    assert_missing(rt, alloc, store, &[nowhere, folder]);
     assert_faults(rt, store, name, 2, 0);
-    assert_faults(rt, store, nowhere, 1, 1);
-    assert_faults(rt, store, folder, 1, 1);
     Ok(())
+}
+
+/// The same on a fresh store.
+fn assert_fresh<R: Abort + Files>(
+    rt: &R,
+    alloc: Global,
+    name: &str,
+    nowhere: &str,
+    folder: &str,
+) -> Result<(), Fail> {
+    let mut store = FileStore::new(alloc, rt);
+    assert_files(rt, alloc, &mut store, name, nowhere, folder)
+}
+
+/// The same where a folder beside the name is missing.
+fn assert_named<R: Abort + Files>(
+    rt: &R,
+    alloc: Global,
+    name: &str,
+    folder: &str,
+) -> Result<(), Fail> {
+    let nowhere = format!(in alloc; "{name}.missing/a")?;
+    assert_fresh(rt, alloc, name, nowhere.as_str(), folder)
+}
+
+/// The same of a name in the folder that has the number.
+fn assert_folder<R: Abort + Files>(
+    rt: &R,
+    alloc: Global,
+    folder: &str,
+    number: u32,
+) -> Result<(), Fail> {
+    let name = format!(in alloc; "{folder}/fortc-test-{number}")?;
+    assert_named(rt, alloc, name.as_str(), folder)
 }
 
 #[test]
 fn files_are_kept_and_fetched(rt: HostRuntime) -> Result<(), Fail> {
-    let alloc = rt.alloc();
     let folder = env::temp_dir(&rt)?;
-    let id = process::id(rt.process());
-    let name = format!(in alloc; "{}/fortc-test-{id}", folder.as_str())?;
-    let nowhere = format!(in alloc; "{}/fortc-test-{id}.missing/a", folder.as_str())?;
-    let mut store = FileStore::new(alloc, &rt);
-    assert_files(
-        &rt,
-        alloc,
-        &mut store,
-        name.as_str(),
-        nowhere.as_str(),
-        folder.as_str(),
-    )
+    assert_folder(&rt, rt.alloc(), folder.as_str(), process::id(rt.process()))
 }
 
 /// Asserts what a read answers, and how many have failed.
@@ -171,8 +240,9 @@ fn assert_read<R: Read>(
     answer: Result<usize, Failed>,
     faults: u64,
 ) {
-    assert_eq!(rt; source.read(buf), answer);
-    assert_eq!(rt; source.faults(), faults);
+    let room = buf.len();
+    let found = source.read(buf);
+    assert_same(rt, room, (found, source.faults()), (answer, faults));
 }
 
 #[test]
@@ -181,7 +251,7 @@ fn a_source_counts_its_faults(rt: HostRuntime) {
     let mut buf = [0u8; 4];
     assert_read(&rt, &mut source, &mut [], Ok(0), 0);
     assert_read(&rt, &mut source, &mut buf, Ok(1), 0);
-    assert_eq!(rt; buf[0], b'x');
+    assert_same(&rt, "byte", buf[0], b'x');
     assert_read(&rt, &mut source, &mut buf, Err(Failed), 1);
     assert_read(&rt, &mut source, &mut buf, Ok(0), 1);
 }
@@ -194,8 +264,8 @@ fn assert_write<W: Write>(
     answer: Result<(), Failed>,
     faults: u64,
 ) {
-    assert_eq!(rt; sink.write(bytes), answer);
-    assert_eq!(rt; sink.faults(), faults);
+    let found = sink.write(bytes);
+    assert_same(rt, bytes.len(), (found, sink.faults()), (answer, faults));
 }
 
 #[test]
