@@ -18,7 +18,7 @@ use Rattle.c_grammar.specs.File.{Declarations, behind, Declares, Derives, first_
 use Rattle.c_grammar.specs.Reading.{Read}
 use Rattle.c_grammar.specs.ReadingFile.{NamedExternal, external, goes_on, file}
 use Rattle.c_grammar.proofs.Files.{file_declares}
-use Rattle.parse_decl.specs.Externals.{IsRead}
+use Rattle.parse_decl.specs.IsRead.{IsRead}
 use Rattle.parse_tokens.proofs.Names.{SameNames, lexemes_alike, append_same}
 
 abbrev pub behind_all : List External → Declarations → Declarations

@@ -8,13 +8,14 @@ ghost use Rattle.c_grammar.specs.Terminals.{has, lexeme};
 ghost use Rattle.c_grammar.specs.Reading.{Read};
 ghost use Rattle.c_grammar.specs.ReadingFile as spec;
 ghost use Rattle.fc_base.specs.Answers.{Answers};
-ghost use Rattle.parse_decl.specs.Externals.{IsRead, external_of};
+ghost use Rattle.parse_externals.specs.Externals.{external_of};
+ghost use Rattle.parse_decl.specs.IsRead.{IsRead};
 
-use crate::externals::{NamedExternal, external};
-use crate::limits::{deep_bracket, left_out_keyword};
 use c_tokens::Token;
 use c_tree::{External, FileTree, HEIGHT_LIMIT};
 use fc_base::{Fault, NoMemory, Place, Refusal, Rule, Text};
+use parse_externals::{NamedExternal, external};
+use parse_limits::{deep_bracket, left_out_keyword};
 use parse_tokens::{ParseFault, Tokens, TypeNames};
 use sqlite_items::Items;
 use std::alloc::Global;

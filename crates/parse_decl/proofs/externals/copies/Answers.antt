@@ -1,6 +1,0 @@
-use Rattle.std.proofs.Common.{ap, map, ◌∙◌, Bor, ℕ, List}
-use Rattle.parse_decl.proofs.Loops.{take_all}
-use Rattle.parse_decl.proofs.externals.copies.Goals as goal
-
-pub returns : goal.returns
-returns c = c.loop-text.invariant ∙ ap (map (λ (text : Bor (List ℕ)). text.now)) (take_all _ _ c.loop-text-test.false)

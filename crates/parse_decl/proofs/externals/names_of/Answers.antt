@@ -1,7 +1,0 @@
-use Rattle.std.proofs.Common.{ap, map, ◌∙◌}
-use Rattle.parse_decl.specs.declared.declarations.Declared.{Declared}
-use Rattle.parse_decl.proofs.Loops.{take_all}
-use Rattle.parse_decl.proofs.externals.names_of.Goals as goal
-
-pub returns : goal.returns
-returns c = c.loop-one.invariant ∙ ap (map (λ (one : Declared). one.name.now)) (take_all _ _ c.loop-one-test.false)

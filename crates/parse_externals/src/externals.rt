@@ -1,0 +1,328 @@
+//! External declarations (C11 6.9).
+
+ghost use Rattle.std.specs.Prelude.{◌≡◌, ◌<◌, ◌≤◌, ◌+◌, ◌*◌, ◌^◌, ℕ, suc, max, [], ◌∷◌, List, length, map, IfOk, IfErr};
+ghost use Rattle.c_grammar.specs.Terminals.{Lexeme, header_types};
+ghost use Rattle.c_grammar.specs.File.{type_names};
+ghost use Rattle.c_grammar.specs.Reading.{bounded, found};
+ghost use Rattle.c_grammar.specs.ReadingFile as spec;
+ghost use Rattle.parse_tokens.specs.Gives.{GivesAs};
+ghost use Rattle.parse_tokens.specs.declared.faults.ParseFault.TheVariants as fault;
+ghost use Rattle.parse_parts.specs.Counts.{specs_of, tally_of};
+ghost use Rattle.parse_declarators.specs.Named.{named_of};
+ghost use Rattle.parse_inits.specs.Declarations.{declared_of};
+ghost use Rattle.parse_externals.specs.Externals.{brace_at, declared_from, external_of};
+
+use c_grammar::Terminal;
+use c_tokens::{HeaderId, Punct, Token, TokenKind};
+use c_tree::{Declarator, External, InitDeclarator, Stmt};
+use fc_base::{NoMemory, Place, Text};
+use parse_declarators::{Named, declarator, outer_specs};
+use parse_inits::{Declared, NamedInits, init_declarators};
+use parse_parts::{SpecList, Tally};
+use parse_statements::block_items;
+use parse_tokens::{ParseFault, Tall, Tokens, both, kept};
+use sqlite_items::Items;
+use std::alloc::Global;
+
+/// An external declaration, and the names of types that it makes.
+#[derive(Drop)]
+pub struct NamedExternal {
+    pub tree: External,
+    pub names: Items<Text>,
+}
+
+/// The names of types that the declarations of a header make (C11 7.19, 7.20; POSIX).
+fn header_types(id: HeaderId) -> &'static [&'static str]
+    ensures { map (λ name. name.now) result.now ≡ header_types id }
+{
+    match id {
+        HeaderId::Strings => &[],
+        HeaderId::String | HeaderId::Stdio | HeaderId::Stdlib => &["size_t"],
+        HeaderId::Stddef => &["size_t", "ptrdiff_t"],
+        HeaderId::Stdint => &[
+            "int8_t", "int16_t", "int32_t", "int64_t", "uint8_t", "uint16_t", "uint32_t",
+            "uint64_t",
+        ],
+        HeaderId::Unistd => &["size_t", "ssize_t"],
+    }
+}
+
+fn copies(alloc: Global, texts: &[&str]) -> Result<Items<Text>, NoMemory>
+    ensures { IfOk result (λ copies. copies ≡ map (λ text. text.now) texts.now) }
+{
+    let mut copies = Items::new(alloc);
+    for text in texts {
+        copies.push(Text::from_bytes(alloc, text.as_bytes())?)?;
+    }
+    Ok(copies)
+}
+
+/// The inclusion of a header that the token is.
+fn header(alloc: Global, token: &Token) -> Result<Tall<NamedExternal>, ParseFault>
+    ensures { (t : List Lexeme) → GivesAs external_of (spec.header_read token.now.kind token.now.place t) result t }
+{
+    match &token.kind {
+        TokenKind::Header(id) => Ok(Tall {
+            tree: NamedExternal {
+                tree: External::Header {
+                    id: *id,
+                    place: token.place,
+                },
+                names: copies(alloc, header_types(*id))?,
+            },
+            height: 1,
+        }),
+        _ => Err(ParseFault::NoDerivation),
+    }
+}
+
+fn names_of(alloc: Global, declared: &[Declared<'_>]) -> Result<Items<Text>, NoMemory>
+    ensures { IfOk result (λ names. names ≡ map (λ one. one.name.now) declared.now) }
+{
+    let mut names = Items::new(alloc);
+    for one in declared {
+        names.push(Text::from_bytes(alloc, one.name)?)?;
+    }
+    Ok(names)
+}
+
+/// The names of types that a declaration makes: with `typedef` all that it declares (C11 6.7.8).
+fn type_names(
+    alloc: Global,
+    tally: Tally,
+    declared: &[Declared<'_>],
+) -> Result<Items<Text>, ParseFault>
+    ensures names { IfOk result (λ names. names ≡ type_names (tally_of tally) (map declared_of declared.now)) }
+    ensures memory { IfErr result (λ e. e ≡ fault.NoMemory) }
+{
+    if tally.typedef == 0 {
+        Ok(Items::new(alloc))
+    } else {
+        let names = names_of(alloc, declared)?;
+        Ok(names)
+    }
+}
+
+/// The declaration with the names, if its tree is not too high.
+fn within(
+    declaration: Tall<External>,
+    names: Items<Text>,
+    depth: usize,
+) -> Result<Tall<NamedExternal>, ParseFault>
+    requires { depth < 1000 }
+    ensures { (t : List Lexeme) → GivesAs external_of (bounded (suc depth) (found (spec.as_external declaration.tree names) declaration.height t)) result t }
+{
+    let is_low = declaration.height <= depth + 1;
+    let named = Tall {
+        tree: NamedExternal {
+            tree: declaration.tree,
+            names,
+        },
+        height: declaration.height,
+    };
+    kept(named, is_low)
+}
+
+/// A declaration of its parts (C11 6.7).
+fn declaration_of(
+    specs: Tall<SpecList>,
+    declarators: Tall<Items<InitDeclarator>>,
+    place: Place,
+) -> Tall<External>
+    requires specs { specs.height + 1 < 2 ^ 64 }
+    requires declarators { declarators.height + 1 < 2 ^ 64 }
+    ensures { result ≡ record { tree = External.Declaration specs.tree.specs declarators.tree place; height = suc (max specs.height declarators.height) } }
+{
+    Tall {
+        height: specs.height.max(declarators.height) + 1,
+        tree: External::Declaration {
+            specs: specs.tree.specs,
+            declarators: declarators.tree,
+            place,
+        },
+    }
+}
+
+/// A declaration, behind its first declarator (C11 6.7).
+fn declared<'a>(
+    alloc: Global,
+    tokens: &mut Tokens<'a>,
+    depth: usize,
+    specs: Tall<SpecList>,
+    first: Tall<Named<'a>>,
+    place: Place,
+    turns: usize,
+) -> Result<Tall<NamedExternal>, ParseFault>
+    requires few { depth < 999 }
+    requires specs_low { specs.height ≤ depth + 2 ^ 63 }
+    requires first_low { first.height ≤ depth + 2 ^ 63 }
+    ensures { GivesAs external_of (declared_from depth place (specs_of specs.tree) specs.height turns (named_of first.entry.tree) first.entry.height tokens.old) result tokens.new }
+{
+    let inits = init_declarators(alloc, tokens, depth, first, turns);
+    let (specs, Tall { tree, height }) = both(specs, inits)?;
+    let NamedInits { trees, declared } = tree;
+    let names = type_names(alloc, specs.tree.tally, declared.as_slice());
+    let declarators = Tall {
+        tree: trees,
+        height,
+    };
+    let declaration = declaration_of(specs, declarators, place);
+    let (declaration, names) = both(declaration, names)?;
+    within(declaration, names, depth)
+}
+
+/// A function of its parts (C11 6.9.1).
+fn function_of(
+    specs: Tall<SpecList>,
+    declarator: Tall<Declarator>,
+    items: Tall<Items<Stmt>>,
+    place: Place,
+    start: Place,
+) -> Tall<External>
+    requires specs { specs.height + 2 < 2 ^ 64 }
+    requires declarator { declarator.height + 2 < 2 ^ 64 }
+    requires items { items.height + 2 < 2 ^ 64 }
+    ensures { result ≡ record { tree = External.Function specs.tree.specs declarator.tree (Stmt.Block items.tree start) place; height = suc (max specs.height (max declarator.height (suc items.height))) } }
+{
+    Tall {
+        height: specs.height.max(declarator.height.max(items.height + 1)) + 1,
+        tree: External::Function {
+            specs: specs.tree.specs,
+            declarator: declarator.tree,
+            body: Stmt::Block {
+                items: items.tree,
+                place: start,
+            },
+            place,
+        },
+    }
+}
+
+/// A function, behind the brace of its body (C11 6.9.1).
+fn function<'a>(
+    alloc: Global,
+    tokens: &mut Tokens<'a>,
+    depth: usize,
+    specs: Tall<SpecList>,
+    first: Tall<Named<'a>>,
+    place: Place,
+    start: Place,
+) -> Result<Tall<NamedExternal>, ParseFault>
+    requires few { depth < 999 }
+    requires specs_low { specs.height ≤ depth + 2 ^ 63 }
+    requires first_low { first.height ≤ depth + 2 ^ 63 }
+    ensures { GivesAs external_of (spec.body depth place (found (specs_of specs.tree) specs.height tokens.old) (found (named_of first.entry.tree) first.entry.height tokens.old) start tokens.old) result tokens.new }
+{
+    let items = block_items(alloc, tokens, depth);
+    let parts = both(specs, items);
+    let (first, (specs, items)) = both(first, parts)?;
+    let Named {
+        tree,
+        name,
+        nearest,
+    } = first.tree;
+    let names = type_names(alloc, specs.tree.tally, &[Declared { name, nearest }]);
+    let declarator = Tall {
+        tree,
+        height: first.height,
+    };
+    let function = function_of(specs, declarator, items, place, start);
+    let (function, names) = both(function, names)?;
+    within(function, names, depth)
+}
+
+/// Takes the brace that begins a body, if it comes next.
+fn takes_brace(tokens: &mut Tokens<'_>) -> bool
+    ensures { brace_at tokens.old ≡ (result, tokens.new) }
+{
+    match tokens.peek() {
+        Some(Terminal::Punct(Punct::LeftBrace)) => {
+            tokens.next();
+            true
+        }
+        _ => false,
+    }
+}
+
+/// A declaration with declarators or a function, behind the specifiers.
+fn declaration(
+    alloc: Global,
+    tokens: &mut Tokens<'_>,
+    depth: usize,
+    specs: Tall<SpecList>,
+    place: Place,
+) -> Result<Tall<NamedExternal>, ParseFault>
+    requires few { depth < 999 }
+    requires specs_low { specs.height ≤ depth + 2 ^ 63 }
+    ensures { GivesAs external_of (spec.declaration depth place (found (specs_of specs.tree) specs.height tokens.old) tokens.old) result tokens.new }
+{
+    let turns = tokens.left();
+    let first = declarator(alloc, tokens, depth);
+    let (specs, first) = both(specs, first)?;
+    let start = tokens.place();
+    if takes_brace(tokens) {
+        function(alloc, tokens, depth, specs, first, place, start)
+    } else {
+        declared(alloc, tokens, depth, specs, first, place, turns)
+    }
+}
+
+/// `struct pair { int a, b; };`, behind the specifiers: a declaration without declarators.
+fn undeclared(
+    alloc: Global,
+    depth: usize,
+    specs: Tall<SpecList>,
+    place: Place,
+) -> Result<Tall<NamedExternal>, ParseFault>
+    requires few { depth < 999 }
+    requires specs_low { specs.height ≤ depth + 2 ^ 63 }
+    ensures { (t : List Lexeme) → GivesAs external_of (bounded (suc depth) (found (spec.as_external (External.Declaration specs.tree.specs [] place) []) (suc specs.height) t)) result t }
+{
+    let declaration = Tall {
+        tree: External::Declaration {
+            specs: specs.tree.specs,
+            declarators: Items::new(alloc),
+            place,
+        },
+        height: specs.height + 1,
+    };
+    within(declaration, Items::new(alloc), depth)
+}
+
+#[tactic(auto, unfolding(c_grammar::specs::ReadingFile::specified))]
+fn specified(
+    alloc: Global,
+    tokens: &mut Tokens<'_>,
+    depth: usize,
+) -> Result<Tall<NamedExternal>, ParseFault>
+    requires { depth < 999 }
+    ensures { GivesAs external_of (spec.specified depth tokens.old) result tokens.new }
+{
+    let place = tokens.place();
+    let specs = outer_specs(alloc, tokens, depth)?;
+    match tokens.peek() {
+        Some(Terminal::Punct(Punct::Semicolon)) => {
+            tokens.next();
+            undeclared(alloc, depth, specs, place)
+        }
+        _ => declaration(alloc, tokens, depth, specs, place),
+    }
+}
+
+/// An external declaration, whose parts are read to the depth.
+pub fn external(
+    alloc: Global,
+    tokens: &mut Tokens<'_>,
+    depth: usize,
+) -> Result<Tall<NamedExternal>, ParseFault>
+    requires { depth < 999 }
+    ensures { GivesAs external_of (spec.external depth tokens.old) result tokens.new }
+{
+    match tokens.peek() {
+        Some(Terminal::Header) => match tokens.next() {
+            Some((_, token)) => header(alloc, token),
+            None => Err(ParseFault::NoDerivation),
+        },
+        _ => specified(alloc, tokens, depth),
+    }
+}

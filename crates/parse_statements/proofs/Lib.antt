@@ -1,0 +1,2 @@
+mod Braced
+mod Knots
