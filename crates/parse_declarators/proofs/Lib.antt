@@ -2,5 +2,4 @@ mod Lengths
 mod Suffixes
 mod Openings
 mod Knots
-pub mod Lists
 mod Items

@@ -1,14 +1,12 @@
--- A function value that reads declarators, or specifiers, to a depth.
-use Rattle.std.specs.Prelude.{ℕ, ◌≤◌, ◌<◌, Result, IfOk, List, length}
+-- A function value that reads declarators to a depth.
+use Rattle.std.specs.Prelude.{ℕ, ◌<◌, Result, IfOk, List, length}
 use Rattle.std.specs.declared.alloc.Global.{Global}
 use denote.Ref.{MutBor}
 use Rattle.c_grammar.specs.Terminals.{Lexeme}
-use Rattle.c_grammar.specs.ReadingDeclarators.{declarator, outer_spec}
+use Rattle.c_grammar.specs.ReadingDeclarators.{declarator}
 use Rattle.parse_tokens.specs.Gives.{Low}
 use Rattle.parse_tokens.specs.declared.faults.ParseFault.{ParseFault}
 use Rattle.parse_tokens.specs.declared.faults.Tall.{Tall}
-use Rattle.parse_parts.specs.declared.specifiers.Counted.{Counted}
-use Rattle.parse_parts.specs.Counts.{GivesCounted, total}
 use Rattle.parse_declarators.specs.declared.named.Named.{Named}
 use Rattle.parse_declarators.specs.Named.{GivesNamed}
 
@@ -20,18 +18,5 @@ pub record Nests (depth : ℕ) (pre : Global → MutBor (List Lexeme) → ℕ �
   pub low : (alloc : Global) (old new : MutBor (List Lexeme)) (r : Result (Tall Named) ParseFault) → post alloc old depth r new
       → Low depth r old.now new.now
   pub on : (alloc : Global) (old new : MutBor (List Lexeme)) (r : Result (Tall Named) ParseFault) → post alloc old depth r new
-      → IfOk r (λ _. length new.now < length old.now)
-  pub few : depth < 1000
-
-pub record NestsSpecs (depth : ℕ) (pre : Global → MutBor (List Lexeme) → ℕ → Type 0)
-    (post : Global → MutBor (List Lexeme) → ℕ → Result (Tall Counted) ParseFault → MutBor (List Lexeme) → Type 0) : Type 0 where
-  pub callable : (alloc : Global) (old : MutBor (List Lexeme)) → pre alloc old depth
-  pub reads : (alloc : Global) (old new : MutBor (List Lexeme)) (r : Result (Tall Counted) ParseFault) → post alloc old depth r new
-      → GivesCounted (outer_spec depth old.now) r new.now
-  pub low : (alloc : Global) (old new : MutBor (List Lexeme)) (r : Result (Tall Counted) ParseFault) → post alloc old depth r new
-      → Low depth r old.now new.now
-  pub small : (alloc : Global) (old new : MutBor (List Lexeme)) (r : Result (Tall Counted) ParseFault) → post alloc old depth r new
-      → IfOk r (λ x. total x.tree.tally ≤ 1)
-  pub on : (alloc : Global) (old new : MutBor (List Lexeme)) (r : Result (Tall Counted) ParseFault) → post alloc old depth r new
       → IfOk r (λ _. length new.now < length old.now)
   pub few : depth < 1000

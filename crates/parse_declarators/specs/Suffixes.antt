@@ -1,5 +1,5 @@
 -- A declarator step by step: what stands before its name, and how it goes on behind it (C11 6.7.6).
-use Rattle.std.specs.Prelude.{ℕ, suc, max, List, [], ◌∷◌, Option, Some, None, Bool, true, false, if◌then◌else◌, is_some, length}
+use Rattle.std.specs.Prelude.{ℕ, suc, max, List, [], ◌∷◌, Option, Some, None, Bool, true, false, if◌then◌else◌, length}
 use Rattle.fc_base.specs.declared.refusals.Place.{Place}
 use Rattle.c_tokens.specs.declared.puncts.Punct.TheVariants as p
 use Rattle.c_tree.specs.declared.nodes.Expr.{Expr}
@@ -7,7 +7,7 @@ use Rattle.c_tree.specs.declared.nodes.Declarator.TheVariants as d
 use Rattle.c_tree.specs.declared.nodes.Params.{Params}
 use Rattle.c_grammar.specs.declared.terminals.Terminal.TheVariants as k
 use Rattle.c_grammar.specs.Terminals.{Lexeme, at, text_of, place_of}
-use Rattle.c_grammar.specs.Expressions.{bare, parameters, other, behind, pointer_word}
+use Rattle.c_grammar.specs.Expressions.{bare, parameters, other, behind}
 use Rattle.c_grammar.specs.Reading.{Read, ◌>>=◌, found, bounded, after_left_paren, after_right_paren, after_left_bracket, pointer_words, bound}
 use Rattle.c_grammar.specs.ReadingDeclarators.{Named, as_named, params_in, suffixes}
 use Rattle.parse_declarators.specs.declared.declarators.Pointer.{Pointer}
@@ -15,11 +15,7 @@ use Rattle.parse_declarators.specs.declared.declarators.Opening.{Opening}
 use Rattle.parse_declarators.specs.declared.declarators.Suffix.{Suffix}
 use Rattle.parse_declarators.specs.declared.declarators.Suffix.TheVariants as suffix
 
--- whether a star or a qualifier comes next, and whether a star does
-abbrev pub begins_pointer_word : List Lexeme → Bool
-begins_pointer_word [] = false
-begins_pointer_word (at c o ∷ t) = is_some (pointer_word c)
-
+-- whether a star comes next
 abbrev pub begins_star : List Lexeme → Bool
 begins_star (at (k.Punct p.Star) o ∷ t) = true
 begins_star _ = false

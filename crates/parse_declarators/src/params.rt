@@ -7,13 +7,12 @@ ghost use Rattle.parse_tokens.specs.Gives.{Gives, Low};
 ghost use Rattle.parse_declarators.specs.Named.{as_specs};
 ghost use Rattle.parse_declarators.specs.Nests.{Nests};
 
-use crate::ends::take_params_end;
-use crate::lookahead::names;
 use crate::named::Named;
 use c_grammar::{Keyword, Terminal};
 use c_tokens::Punct;
 use c_tree::{Param, Params};
 use fc_base::Place;
+use parse_ends::{names, take_params_end};
 use parse_expr::abstract_declarator;
 use parse_parts::{Context, SpecList, plain_specs};
 use parse_tokens::{ParseFault, Tall, Tokens, both};

@@ -10,7 +10,7 @@ use Rattle.c_grammar.specs.Expressions.{Declared}
 use Rattle.c_grammar.specs.Reading.{Read, ◌>>=◌, found}
 use Rattle.c_grammar.specs.ReadingDeclarators.{Named}
 use Rattle.c_grammar.specs.ReadingStatements.{NamedInit, NamedInits, as_init, attribute_lists, initialised, init_behind, init_declarator, init_declarators, init_declarators_behind, with_init}
-use Rattle.parse_declarators.specs.Ends.{declarators_end_at}
+use Rattle.parse_ends.specs.Ends.{declarators_end_at}
 use Rattle.parse_inits.specs.Readers.{init_some, init_at, init_declarator_from, init_declarators_from}
 
 abbrev pub as_inits : List InitDeclarator → List Declared → NamedInits

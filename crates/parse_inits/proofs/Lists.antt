@@ -7,8 +7,8 @@ use Rattle.c_grammar.specs.Terminals.{Lexeme, at}
 use Rattle.c_grammar.specs.Reading.{Read, ◌>>=◌}
 use Rattle.c_grammar.specs.ReadingStatements.{inits, inits_behind, inits_comma}
 use Rattle.parse_tokens.proofs.Binds.{bind_each}
-use Rattle.parse_declarators.specs.Ends.{enumerators_end_at, body_end_at}
-use Rattle.parse_declarators.proofs.Lists.{ListOf, ended}
+use Rattle.parse_ends.specs.Ends.{enumerators_end_at, body_end_at}
+use Rattle.parse_ends.proofs.Lists.{ListOf, ended}
 
 module _ (deep : List Lexeme → Option (Read Init)) where
   comma_by_end : (later : List Lexeme → Option (Read (List Init))) (x : Read Init) (s : List Lexeme) → inits_comma deep later x s ≡ ended later x (body_end_at s)

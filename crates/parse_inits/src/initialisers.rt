@@ -12,7 +12,7 @@ use c_grammar::Terminal;
 use c_tokens::Punct;
 use c_tree::Init;
 use fc_base::Place;
-use parse_declarators::take_enumerators_end;
+use parse_ends::take_enumerators_end;
 use parse_expr::{ASSIGNMENT, expression};
 use parse_tokens::{ParseFault, Tall, Tokens};
 use sqlite_items::Items;

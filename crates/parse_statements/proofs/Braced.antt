@@ -7,7 +7,7 @@ use Rattle.c_grammar.specs.declared.terminals.Terminal.TheVariants as k
 use Rattle.c_grammar.specs.Terminals.{Lexeme, at}
 use Rattle.c_grammar.specs.Reading.{Read, ◌>>=◌, found, prepended, expression}
 use Rattle.c_grammar.specs.ReadingStatements.{items, items_by, labelled, labelled_by, with_stmt, statement, cases}
-use Rattle.parse_declarators.specs.Ends.{body_end_at}
+use Rattle.parse_ends.specs.Ends.{body_end_at}
 use Rattle.parse_statements.specs.declared.statements.Beside.{Beside}
 use Rattle.parse_statements.specs.declared.statements.Beside.TheVariants as beside
 use Rattle.parse_statements.specs.Lists.{item_of, stmts_of, begins_cases}

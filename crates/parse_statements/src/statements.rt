@@ -19,7 +19,7 @@ use c_grammar::{Keyword, Terminal};
 use c_tokens::Punct;
 use c_tree::{Expr, Stmt};
 use fc_base::Place;
-use parse_declarators::take_body_end;
+use parse_ends::take_body_end;
 use parse_tokens::{ParseFault, Tall, Tokens, before_semicolon, both};
 use sqlite_items::{Boxed, Items};
 use std::alloc::Global;

@@ -1,7 +1,7 @@
 use Rattle.std.proofs.Common.{◌∙◌, rules, arith}
 use Rattle.c_grammar.specs.ReadingStatements.{initialiser}
 use Rattle.parse_tokens.proofs.Turns.{highest}
-use Rattle.parse_declarators.proofs.Lists.{item_fails, end_fails, turn_ends, turn_goes, turns_over}
+use Rattle.parse_ends.proofs.Lists.{item_fails, end_fails, turn_ends, turn_goes, turns_over}
 use Rattle.parse_inits.proofs.Lists.{inits_are}
 use Rattle.parse_inits.proofs.initialisers.Initialisers.items.Goals as goal
 

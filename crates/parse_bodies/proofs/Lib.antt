@@ -1,0 +1,2 @@
+mod Knots
+mod Items
