@@ -1,10 +1,1 @@
-pub mod Bounds
-pub mod Climbing
-pub mod Cursor
-pub mod Groups
-pub mod Keeping
-pub mod Knots
-pub mod Levels
-pub mod Lists
-pub mod Parts
 pub mod SpanSteps

@@ -6,10 +6,10 @@ ghost use Rattle.c_grammar.specs.Spans.{ends, questions_after, brackets_after, s
 ghost use Rattle.parse_tokens.specs.declared.faults.ParseFault.TheVariants as fault;
 ghost use Rattle.parse_expr.specs.Forms.{level_of, ends_at_commas};
 
-use crate::expressions::expression;
-use crate::lefts::{ASSIGNMENT, CONDITIONAL, EXPRESSION};
 use c_tokens::{Punct, Token, TokenKind};
 use c_tree::{Expr, HEIGHT_LIMIT};
+use parse_roles::{ASSIGNMENT, CONDITIONAL, EXPRESSION};
+use parse_terms::expression;
 use parse_tokens::{ParseFault, Tokens, TypeNames, kept};
 use std::alloc::Global;
 

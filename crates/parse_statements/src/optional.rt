@@ -10,7 +10,8 @@ ghost use Rattle.parse_statements.specs.Lists.{after_end, taken};
 use c_grammar::Terminal;
 use c_tokens::Punct;
 use c_tree::Expr;
-use parse_expr::{EXPRESSION, expression};
+use parse_roles::EXPRESSION;
+use parse_terms::expression;
 use parse_tokens::{ParseFault, Tall, Tokens, before_right_paren, before_semicolon};
 use std::alloc::Global;
 

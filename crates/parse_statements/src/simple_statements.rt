@@ -11,8 +11,9 @@ use crate::optional::{End, optional};
 use c_grammar::{Keyword, Terminal};
 use c_tree::{Expr, ForHead, Stmt};
 use fc_base::Place;
-use parse_expr::{CONDITIONAL, EXPRESSION, expression};
 use parse_inits::local_declaration;
+use parse_roles::{CONDITIONAL, EXPRESSION};
+use parse_terms::expression;
 use parse_tokens::{ParseFault, Tall, Tokens, before_colon, before_right_paren, before_semicolon};
 use std::alloc::Global;
 

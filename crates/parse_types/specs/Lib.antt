@@ -1,0 +1,2 @@
+pub mod Abstracts
+pub mod Nests

@@ -1,0 +1,30 @@
+//! The rules of expressions, over a function that reads expressions one node less high.
+
+ghost use Rattle.std.specs.Prelude.{◌≤◌, ◌<◌, IfOk};
+ghost use Rattle.c_grammar.specs.Reading as spec;
+ghost use Rattle.parse_tokens.specs.Gives.{Gives};
+ghost use Rattle.parse_types.specs.Nests.{Nests};
+
+use c_tree::Expr;
+use parse_tokens::{ParseFault, Tall, Tokens};
+use std::alloc::Global;
+
+/// The rules of expressions whose parts are at most `depth` high, over a function that reads those parts.
+#[derive(Clone, Copy)]
+pub struct Grammar<F> {
+    pub alloc: Global,
+    pub depth: usize,
+    pub expr: F,
+}
+
+impl<F: Fn(Global, &mut Tokens<'_>, usize, u8) -> Result<Tall<Expr>, ParseFault>> Grammar<F> {
+    /// An expression of a level.
+    pub fn sub(&self, tokens: &mut Tokens<'_>, level: u8) -> Result<Tall<Expr>, ParseFault>
+        requires { Nests self.now.depth (F.pre self.now.expr) (F.post self.now.expr) }
+        ensures reads { Gives (spec.expression self.now.depth level tokens.old) result tokens.new }
+        ensures low { IfOk result (λ x. x.height ≤ self.now.depth) }
+        ensures few { self.now.depth < 1000 }
+    {
+        (self.expr)(self.alloc, tokens, self.depth, level)
+    }
+}
