@@ -1,4 +1,2 @@
-pub mod Sameness
-pub mod Reading
 pub mod Phases
 pub mod Numbers

@@ -13,11 +13,11 @@ use Rattle.c_expansion.specs.Moves.{start}
 use Rattle.c_expansion.proofs.ExpansionLaws as expansion
 use Rattle.c_grammar.specs.File.{Derives}
 use Rattle.c_grammar.proofs.Uniqueness.{derives_once, derives_some}
-use Rattle.c_front.specs.declared.forms.Form.{Form}
-use Rattle.c_front.specs.Forms.{IsForm}
+use Rattle.c_forms.specs.declared.Form.{Form}
+use Rattle.c_forms.specs.Forms.{IsForm}
 use Rattle.c_front.specs.Front.{Front, unlexed, unexpanded, underived, no_form, some_form, not_this_form}
-use Rattle.c_front.specs.Reading.{form_of}
-use Rattle.c_front.proofs.Reading.{form_read, form_found, none_read}
+use Rattle.c_forms.specs.Reading.{form_of}
+use Rattle.c_forms.proofs.Reading.{form_read, form_found, none_read}
 
 -- the outcome of tokens that were parsed
 abbrev pub by_form : Option Form → Result Form Refusal

@@ -8,8 +8,8 @@ use Rattle.c_tree.specs.declared.externals.FileTree.{FileTree}
 use Rattle.c_lexer.specs.Lexed.{lexed}
 use Rattle.c_expansion.specs.Expansion.{IsExpanded}
 use Rattle.c_grammar.specs.File.{Derives}
-use Rattle.c_front.specs.declared.forms.Form.{Form}
-use Rattle.c_front.specs.Forms.{IsForm, IsListOf, HaveNoForm}
+use Rattle.c_forms.specs.declared.Form.{Form}
+use Rattle.c_forms.specs.Forms.{IsForm, IsListOf, HaveNoForm}
 
 -- the refusal of a source that isn't the form
 abbrev pub not_this_form : Refusal

@@ -1,10 +1,9 @@
 //! A source before it is compiled: lexed, preprocessed and read, or refused.
 #![tactic(auto)]
 
-mod forms;
 mod front;
 mod laws;
 
-pub use forms::Form;
+pub use c_forms::Form;
 pub use front::read_source;
 pub use laws::{numbers_are_lexed, one_front};

@@ -8,13 +8,13 @@ use Rattle.byte_machine.specs.Opening.{program_of, first_core}
 use Rattle.byte_machine.specs.Machines.{Loaded}
 use Rattle.fc_base.specs.declared.levels.Level.TheVariants.{Three}
 use Rattle.fc_base.specs.declared.refusals.Refusal.{Refusal}
-use Rattle.c_front.specs.declared.Form.{Form}
-use Rattle.c_front.specs.Forms.{IsForm}
+use Rattle.c_forms.specs.declared.Form.{Form}
+use Rattle.c_forms.specs.Forms.{IsForm}
 use Rattle.c_front.specs.Front.{Front}
 use Rattle.c_front.proofs.Phases.{form_is, one}
-use Rattle.fort_driver.specs.declared.outcomes.Outcome.{Outcome}
-use Rattle.fort_driver.specs.declared.outcomes.Outcome.TheVariants as outcomes
-use Rattle.fort_driver.specs.Commands.{default_steps}
+use Rattle.fort_words.specs.declared.Outcome.{Outcome}
+use Rattle.fort_words.specs.declared.Outcome.TheVariants as outcomes
+use Rattle.fort_words.specs.Commands.{default_steps}
 use Rattle.fort_driver.specs.Compiled.{form_image}
 use Rattle.fort_driver.specs.Forms.{form_runs}
 use Rattle.fort_driver.specs.Fort.{Holds, IsRun, HasRun, Runs, Answers, StoodStill, longest_source}

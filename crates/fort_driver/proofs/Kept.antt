@@ -3,11 +3,11 @@ use Rattle.std.proofs.Common.{◌≡◌, ℕ, ◌<◌, ◌≤◌, List, length, 
 use Rattle.std.proofs.lemmas.List.{length-replicate}
 use Rattle.fc_base.specs.Outside.{Files, IfTold, Puts}
 use Rattle.fc_base.specs.declared.levels.Level.TheVariants.{Three}
-use Rattle.c_front.specs.declared.Form.{Form}
+use Rattle.c_forms.specs.declared.Form.{Form}
 use Rattle.c_front.specs.Front.{Front}
 use Rattle.c_front.proofs.Phases.{form_is}
 use Rattle.fort_driver.specs.Compiled.{form_image}
-use Rattle.fort_driver.specs.Spelling.{image_bytes}
+use Rattle.image_bytes.specs.Spelling.{image_bytes}
 use Rattle.fort_driver.specs.Fort.{Holds, KeepsImage, longest_source}
 use Rattle.fort_driver.proofs.Agreement.{image_ok, agrees}
 

@@ -1,4 +1,3 @@
 pub mod Agreement
 pub mod Answering
 pub mod Kept
-pub mod Lines

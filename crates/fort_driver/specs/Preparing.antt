@@ -2,13 +2,13 @@
 use Rattle.std.specs.Prelude.{◌≡◌, ◌≢◌, ℕ, ◌≤◌, ◌<◌, List, [], length, Option, None, Result, Ok, Err, ◌⊎◌}
 use Rattle.fc_base.specs.Outside.{Files, KeepsOthers, Rose}
 use Rattle.fc_base.specs.declared.levels.Level.TheVariants.{Three}
-use Rattle.c_front.specs.declared.Form.{Form}
+use Rattle.c_forms.specs.declared.Form.{Form}
 use Rattle.c_front.specs.Front.{Front}
 use Rattle.byte_machine.specs.Images.{PlainImage}
 use Rattle.byte_machine.specs.Opening.{first_core, program_of}
 use Rattle.byte_machine.specs.Machines.{Loaded}
-use Rattle.fort_driver.specs.declared.outcomes.Outcome.{Outcome}
-use Rattle.fort_driver.specs.declared.outcomes.Outcome.TheVariants as outcomes
+use Rattle.fort_words.specs.declared.Outcome.{Outcome}
+use Rattle.fort_words.specs.declared.Outcome.TheVariants as outcomes
 use Rattle.fort_driver.specs.Compiled.{form_image}
 use Rattle.fort_driver.specs.Fort.{Holds, KeepsImage, longest_source}
 

@@ -2,12 +2,12 @@
 
 ghost use Rattle.std.specs.Prelude.{◌≡◌, ◌≢◌, ℕ, ◌+◌, List, Err, IfOk};
 ghost use Rattle.byte_machine.specs.Images.{plain_image};
-ghost use Rattle.c_front.specs.Forms.{IsForm};
+ghost use Rattle.c_forms.specs.Forms.{IsForm};
 ghost use Rattle.fort_driver.specs.Compiled.{form_image, form_weight};
 
 use bm_isa::Instr;
 use byte_machine::{FnRec, Image};
-use c_front::Form;
+use c_forms::Form;
 use fc_base::NoMemory;
 use std::alloc::Global;
 

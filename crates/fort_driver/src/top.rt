@@ -4,22 +4,22 @@ ghost use Rattle.std.specs.Prelude.{◌≡◌, ◌≢◌, ◌↔◌, ℕ, ◌≤
 ghost use Rattle.fc_base.specs.Outside.{Files, IfTold, Rose};
 ghost use Rattle.fc_base.specs.declared.levels.End.{End};
 ghost use Rattle.fc_base.specs.declared.refusals.Refusal.{Refusal};
-ghost use Rattle.c_front.specs.Forms.{IsForm};
+ghost use Rattle.c_forms.specs.Forms.{IsForm};
 ghost use Rattle.byte_machine.specs.Images.{PlainImage, plain_image};
 ghost use Rattle.byte_machine.specs.Opening.{program_of, first_core};
-ghost use Rattle.fort_driver.specs.Commands.{IsUsage, default_steps};
+ghost use Rattle.fort_words.specs.Commands.{IsUsage, default_steps};
 ghost use Rattle.fort_driver.specs.Compiled.{form_image};
-ghost use Rattle.fort_driver.specs.Spelling.{image_bytes};
+ghost use Rattle.image_bytes.specs.Spelling.{image_bytes};
 ghost use Rattle.fort_driver.specs.Fort.{Keeps, KeepsSome, KeepsCounts, Ran, Runs, HasRun, HasNotRun, StoreFailed, IsRun, IsTooLong, IsRefused, StoodStill, NoneFailed, Answers, Holds, longest_source};
 ghost use Rattle.fort_driver.specs.Preparing.{IsReady, NotReady, KeepsOtherCounts};
 
-use crate::commands::run_names;
 use crate::compiled::compile;
-use crate::outcomes::Outcome;
-use crate::spelling::write_image;
 use byte_machine::{Image, Machine, Stop};
-use c_front::{Form, read_source};
+use c_forms::Form;
+use c_front::read_source;
 use fc_base::{Fault, FetchFault, KeepFault, Level, NoMemory, Sink, Source, Store, Words};
+use fort_words::{Outcome, run_names};
+use image_bytes::write_image;
 use std::alloc::Global;
 
 /// The longest source, in bytes.

@@ -1,6 +1,6 @@
 -- Each outcome has its one cause.
 use Rattle.std.proofs.Common.{◌≡◌, refl, subst, Some}
-use Rattle.fort_driver.specs.Commands.{run_of}
+use Rattle.fort_words.specs.Commands.{run_of}
 use Rattle.fort_driver.specs.Fort.{IsRun, StoodStill}
 use Rattle.fort_driver.proofs.Answering.{same_file, same_image, not_ready_answers, ready_answers, runs_not_usage, not_ready_not_usage}
 use Rattle.fort_driver.proofs.top.fort.Goals as goal

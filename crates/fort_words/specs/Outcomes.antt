@@ -1,0 +1,54 @@
+-- The exit status and the fault line of each outcome. This project's own.
+use Rattle.std.specs.Prelude.{ℕ, List, [], ◌∷◌, ◌++◌, codes, decimal}
+use Rattle.fc_base.specs.Names.{rule_name, kind_name}
+use Rattle.fc_base.specs.declared.levels.End.{End}
+use Rattle.fc_base.specs.declared.levels.End.TheVariants as ends
+use Rattle.fc_base.specs.declared.refusals.Place.{Place}
+use Rattle.fort_words.specs.declared.outcomes.Outcome.{Outcome}
+use Rattle.fort_words.specs.declared.outcomes.Outcome.TheVariants as outcomes
+
+abbrev pub end_status : End → ℕ
+end_status (ends.Exit status) = status
+end_status ends.Abort = 134
+end_status ends.Overflow = 134
+end_status ends.Fpe = 136
+end_status ends.StackFull = 139
+end_status ends.BadAddress = 139
+end_status ends.BadFormat = 139
+
+abbrev pub status_of : Outcome → ℕ
+status_of outcomes.Done = 0
+status_of (outcomes.Ran end) = end_status end
+status_of outcomes.Usage = 116
+status_of outcomes.StoreFault = 117
+status_of outcomes.InputFault = 118
+status_of outcomes.OutFault = 119
+status_of outcomes.ErrFault = 120
+status_of outcomes.TooLong = 121
+status_of (outcomes.Refused refusal) = 122
+status_of outcomes.OutOfSteps = 124
+status_of outcomes.NoMemory = 125
+status_of (outcomes.Undefined kind place) = 126
+
+-- a line behind the program's name
+abbrev pub fault_line_of : List ℕ → List ℕ
+fault_line_of text = codes "fortc: " ++ (text ++ 10 ∷ [])
+
+-- `LINE:COLUMN`
+abbrev pub place_text : Place → List ℕ
+place_text place = decimal place.line ++ (codes ":" ++ decimal place.col)
+
+-- what the outcome prints on standard error
+abbrev pub fault_text : Outcome → List ℕ
+fault_text outcomes.Done = []
+fault_text (outcomes.Ran end) = []
+fault_text outcomes.Usage = fault_line_of (codes "usage")
+fault_text outcomes.StoreFault = fault_line_of (codes "store fault")
+fault_text outcomes.InputFault = fault_line_of (codes "input fault")
+fault_text outcomes.OutFault = fault_line_of (codes "output fault")
+fault_text outcomes.ErrFault = fault_line_of (codes "error output fault")
+fault_text outcomes.TooLong = fault_line_of (codes "too long")
+fault_text (outcomes.Refused refusal) = fault_line_of (place_text refusal.place ++ (codes ": refused: " ++ rule_name refusal.rule))
+fault_text outcomes.OutOfSteps = fault_line_of (codes "out of steps")
+fault_text outcomes.NoMemory = fault_line_of (codes "no memory")
+fault_text (outcomes.Undefined kind place) = fault_line_of (codes "undefined " ++ (kind_name kind ++ (codes " at " ++ place_text place)))

@@ -1,0 +1,6 @@
+//! The bytes of an image.
+#![tactic(auto)]
+
+mod spelling;
+
+pub use spelling::write_image;
