@@ -15,8 +15,10 @@ use Rattle.c_expansion.specs.declared.Word.TheVariants as word
 use Rattle.c_expansion.specs.Lines.{word_of}
 use Rattle.c_expansion.specs.Macros.{Macros}
 use Rattle.c_expansion.specs.Moves.{State, Next, goes, Move, moves, condition, with_answers, other_if, with_groups, refused, takes, by_word, on_directive, taken_directive, skipped_directive, outermost, at_end, over}
-use Rattle.c_macros.specs.States.{GoesAs, Refuses}
-use Rattle.c_macros.specs.Comes.{Comes, at_once, DoesAs, HoldsAs}
+use Rattle.c_macros.specs.States.{GoesAs}
+use Rattle.c_lines.specs.Lines.{Refuses}
+use Rattle.c_lines.specs.Comes.{Comes, at_once, HoldsAs}
+use Rattle.c_macros.specs.Doing.{DoesAs}
 
 module _ (ms : Macros) (count : ℕ) (st : State) (n : Next) (before : List Token) where
   pub gives_nothing : n ≡ goes st [] → DoesAs (Ok count) ms count (moves n) st before before
@@ -47,9 +49,6 @@ no_condition ms count place line (Refused e) h next st before after = h next
 pub refuses_at : (ms : Macros) (count : ℕ) (rule : Rule) (place : Place) (r : Result ℕ Fault) (m : Move) (st : State) (before after : List Token) → Refuses r rule place → m ≡ moves (refused rule place)
     → DoesAs r ms count m st before after
 refuses_at ms count rule place r m st before after e h = rw e (count, rw h at_once)
-
-pub goes_at : (ms : Macros) (count : ℕ) (r : Result ℕ Fault) (m : Move) (n : Next) (st : State) (before after : List Token) → m ≡ moves n → DoesAs r ms count (moves n) st before after → DoesAs r ms count m st before after
-goes_at ms count r m n st before after h d = rw h d
 
 -- ---- the groups, where the innermost one is the last item
 

@@ -1,9 +1,4 @@
-pub mod Tables
-pub mod Pairs
-pub mod Fronts
-pub mod Parameters
-pub mod Searches
-pub mod Asking
+pub mod Starting
+pub mod Included
 pub mod Carried
-pub mod Holding
 pub mod Giving

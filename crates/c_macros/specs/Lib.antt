@@ -1,2 +1,2 @@
 pub mod States
-pub mod Comes
+pub mod Doing

@@ -7,19 +7,21 @@ ghost use Rattle.c_expansion.specs.Moves as moves;
 ghost use Rattle.c_expansion.specs.Moves.{with_definition, with_definitions, only_name, only_header, header_token, group, skipped_group};
 ghost use Rattle.c_expansion.specs.Sameness as sameness;
 ghost use Rattle.std.specs.List.{list_any};
-ghost use Rattle.c_replacement.specs.Views.{table, meaning_view};
-ghost use Rattle.c_macros.specs.States.{state, GoesAs, entry_views, definition_view};
-ghost use Rattle.c_macros.specs.Comes.{DoesAs};
+ghost use Rattle.c_items.specs.Views.{table, meaning_view};
+ghost use Rattle.c_macros.specs.States.{state, GoesAs};
+ghost use Rattle.c_lines.specs.Lines.{entry_views};
+ghost use Rattle.c_definitions.specs.Views.{definition_view};
+ghost use Rattle.c_macros.specs.Doing.{DoesAs};
 
-use crate::builtins::{Builtins, Entry};
-use crate::conditions::{holds, refuse};
-use crate::definitions::{definition_of, meaning, operator};
-use crate::headers::header_macros;
-use crate::lines::{after, header_named, name_of, word_of};
-use crate::sameness::{same_header, same_meaning};
-use crate::states::{State, find, set_macro, takes, unset_macro};
+use c_definitions::{
+    State, definition_of, meaning, operator, same_header, same_meaning, set_macro, takes,
+    unset_macro,
+};
 use c_expansion::{Group, Word};
-use c_replacement::{Macro, Macros};
+use c_items::{Macro, Macros, find};
+use c_lines::{
+    Builtins, Entry, after, header_macros, header_named, holds, name_of, refuse, word_of,
+};
 use c_tokens::{HeaderId, Token, TokenKind};
 use fc_base::{Fault, Place, Rule};
 use std::alloc::{AllocError, Global};

@@ -8,16 +8,16 @@ use Rattle.std.proofs.lemmas.List.{length-map, take-map, drop-map, map_push, map
 use Rattle.std.proofs.Math.Seq.{take-append_seam, drop-append_seam}
 use Rattle.fc_base.specs.declared.Fault.{Fault}
 use Rattle.fc_base.specs.declared.Fault.TheVariants.{Refused, NoMemory}
-use Rattle.c_replacement.specs.declared.items.Item.{Item as Held}
-use Rattle.c_replacement.specs.declared.items.Piece.{Piece as Part}
-use Rattle.c_replacement.specs.declared.items.Argument.{Argument as Operand}
-use Rattle.c_replacement.specs.declared.items.Argument.TheVariants.{Written, Expanded}
+use Rattle.c_items.specs.declared.Item.{Item as Held}
+use Rattle.c_items.specs.declared.Piece.{Piece as Part}
+use Rattle.c_items.specs.declared.Argument.{Argument as Operand}
+use Rattle.c_items.specs.declared.Argument.TheVariants.{Written, Expanded}
 use Rattle.fc_base.specs.Answers.{Fails}
 use Rattle.c_expansion.specs.Macros.{HideSet, Item, Macros, written, expanded}
 use Rattle.c_expansion.specs.Turns.{union}
 use Rattle.c_expansion.specs.Replacement.{hidden, argument_text, Expands, Readies, absent, again, fails, first}
-use Rattle.c_replacement.specs.Views.{view, views, left, argument_view, argument_views}
-use Rattle.c_replacement.specs.Turning.{text_of}
+use Rattle.c_items.specs.Views.{view, views, left, argument_view, argument_views}
+use Rattle.c_replacement.specs.Replacing.{text_of}
 
 found : (args : List Operand) (k : ℕ) (a : Operand) → k < length args → a ≡ get_or args k a → slice_get (argument_views args) k ≡ Some (argument_view a)
 found args k a lt e = slice_get-map argument_view args k ∙ ap (λ (o : Option Operand). option_map argument_view o) (slice_get-get_or args k a lt ∙ ap (λ (x : Operand). Some x) (sym e))

@@ -1,5 +1,2 @@
-pub mod Gathering
 pub mod Owed
 pub mod Arguments
-pub mod Merging
-pub mod Searching

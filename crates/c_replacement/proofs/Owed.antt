@@ -10,8 +10,8 @@ use Rattle.c_tokens.specs.declared.TokenKind.{TokenKind}
 use Rattle.fc_base.specs.Answers.{Fails}
 use Rattle.c_tokens.specs.Tokens.{token_limit}
 use Rattle.c_expansion.specs.Macros.{HideSet, Item, token, Piece, plain, parameter, Meaning, Macros, Argument}
-use Rattle.c_replacement.specs.declared.items.Item.{Item as Held}
-use Rattle.c_replacement.specs.Views.{views}
+use Rattle.c_items.specs.declared.Item.{Item as Held}
+use Rattle.c_items.specs.Views.{views}
 use Rattle.c_expansion.specs.Turns.{meaning_of, Turn, turn, by_meaning, stays, bad_call, becomes}
 use Rattle.c_expansion.specs.Replacement.{Outcome, after, replacing, hidden, argument_text, too_many_at, bad_call_at, Expands, over, kept, refused_call, refused_argument, too_many, replaced, Substitutes, whole, own, refused, of_argument, Readies}
 
@@ -110,9 +110,6 @@ module _ (ms : Macros) (depth : ℕ) (place : Place) (hide : HideSet) (from : �
 module _ (ms : Macros) (depth count : ℕ) (t : Item) (ts : List Item) (m : Meaning) (named : Some m ≡ meaning_of ms t) where
   turns : (x : Turn) → by_meaning depth t ts (Some m) ≡ x → turn ms depth t ts ≡ x
   turns x e = ap (λ (o : Option Meaning). by_meaning depth t ts o) (sym named) ∙ e
-
-  pub it_stays : by_meaning depth t ts (Some m) ≡ stays → turn ms depth t ts ≡ stays
-  it_stays e = turns stays e
 
   pub call_refused : by_meaning depth t ts (Some m) ≡ bad_call → Expands ms depth count (t ∷ ts) (Err (bad_call_at t.place))
   call_refused e = refused_call (turns bad_call e)

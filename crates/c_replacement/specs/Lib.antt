@@ -1,3 +1,1 @@
-pub mod HideSets
-pub mod Views
-pub mod Turning
+pub mod Replacing

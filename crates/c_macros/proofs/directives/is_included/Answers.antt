@@ -1,6 +1,6 @@
 use Rattle.std.proofs.Common.{sym, ◌∙◌}
 use Rattle.c_expansion.specs.Sameness.{same_header}
-use Rattle.c_macros.proofs.Searches.{header_here, header_later}
+use Rattle.c_macros.proofs.Included.{header_here, header_later}
 use Rattle.c_macros.proofs.directives.is_included.Goals as goal
 
 pub returns-then-same_header : goal.returns-then-same_header

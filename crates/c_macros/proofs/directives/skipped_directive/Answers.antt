@@ -1,7 +1,7 @@
 use Rattle.std.proofs.Common.{[], sym}
 use Rattle.std.proofs.lemmas.List.{append-nil}
 use Rattle.c_macros.specs.States.{state}
-use Rattle.c_macros.specs.Comes.{at_once}
+use Rattle.c_lines.specs.Comes.{at_once}
 use Rattle.c_macros.proofs.Giving.{skips}
 use Rattle.c_macros.proofs.directives.skipped_directive.Goals as goal
 

@@ -1,5 +1,5 @@
-use Rattle.c_replacement.specs.Views.{table, meaning_view}
-use Rattle.c_macros.proofs.Tables.{table_empty, started}
+use Rattle.c_items.specs.Views.{table, meaning_view}
+use Rattle.c_macros.proofs.Starting.{table_empty, started}
 use Rattle.c_macros.proofs.expansion.start.Goals as goal
 
 pub returns : goal.returns

@@ -1,13 +1,13 @@
 use Rattle.std.proofs.Common.{◌≡◌, ◌≤◌, List, ◌++◌, map, length, refl, ap, sym, ◌∙◌, arith}
 use Rattle.std.proofs.lemmas.Result.{err_from_is_err_and}
 use Rattle.std.proofs.lemmas.List.{map_push, drop_all, append-nil}
-use Rattle.c_replacement.specs.declared.items.Argument.{Argument}
-use Rattle.c_replacement.specs.declared.items.Piece.TheVariants.{Plain, Parameter}
+use Rattle.c_items.specs.declared.Argument.{Argument}
+use Rattle.c_items.specs.declared.Piece.TheVariants.{Plain, Parameter}
 use Rattle.c_expansion.specs.Macros.{Item}
 use Rattle.c_expansion.specs.Replacement.{hidden}
-use Rattle.c_replacement.specs.HideSets.{held}
-use Rattle.c_replacement.specs.Views.{view, views}
-use Rattle.c_replacement.proofs.Gathering.{left_pop, left_none}
+use Rattle.c_items.specs.HideSets.{held}
+use Rattle.c_items.specs.Views.{view, views}
+use Rattle.c_items.proofs.Gathering.{left_pop, left_none}
 use Rattle.c_replacement.proofs.Owed.{completes_kept, completes_over, completes_refused, call_refused, count_refused, argument_refused, it_becomes, adds_plain, adds_parameter, finishes_whole, parameter_refused}
 use Rattle.c_replacement.proofs.Arguments.{is_absent, is_again, is_expanded, is_refused, text_at, text_absent, dropped, put_back, put_count}
 use Rattle.c_replacement.proofs.replacement.+replacement.Goals.{substitute-in-Plain+in_ok-push_replacing-in-Plain, substitute-in-Parameter+then-k-args+in_ok-count-in-Parameter+in_ok-push_hidden-in-Parameter, substitute-in-Parameter+else-k-args}

@@ -1,28 +1,28 @@
 use Rattle.std.proofs.Common.{◌+◌, ◌-◌, ◌*◌, ◌≤◌, ◌<◌, drop, length, vec_len}
-use Rattle.c_replacement.specs.declared.items.TheConstants.{NESTING_LIMIT}
+use Rattle.c_expansion.specs.Macros.{nesting_limit}
 use Rattle.c_tokens.specs.Tokens.{token_limit}
-use Rattle.c_replacement.specs.HideSets.{held}
-use Rattle.c_replacement.specs.Views.{views, left, table, argument_views, piece_views}
+use Rattle.c_items.specs.HideSets.{held}
+use Rattle.c_items.specs.Views.{views, left, table, argument_views, piece_views}
 use Rattle.c_replacement.proofs.Owed.{Completes, Adds}
 use Rattle.c_replacement.proofs.replacement.+replacement.Given as goal
 
 abbrev pub decreases-make_ready : goal.decreases-make_ready
-decreases-make_ready l = 6 * (NESTING_LIMIT - l.depth)
+decreases-make_ready l = 6 * (nesting_limit - l.depth)
 
 abbrev pub decreases-substitute : goal.decreases-substitute
-decreases-substitute l = 6 * (NESTING_LIMIT - l.depth) + 1
+decreases-substitute l = 6 * (nesting_limit - l.depth) + 1
 
 abbrev pub decreases-put : goal.decreases-put
-decreases-put l = 6 * (NESTING_LIMIT - l.depth) + 2
+decreases-put l = 6 * (nesting_limit - l.depth) + 2
 
 abbrev pub decreases-stays : goal.decreases-stays
-decreases-stays l = 6 * (NESTING_LIMIT - l.depth) + 3
+decreases-stays l = 6 * (nesting_limit - l.depth) + 3
 
 abbrev pub decreases-expand_into : goal.decreases-expand_into
-decreases-expand_into l = 6 * (NESTING_LIMIT - l.depth) + 4
+decreases-expand_into l = 6 * (nesting_limit - l.depth) + 4
 
 abbrev pub decreases-run : goal.decreases-run
-decreases-run l = 6 * (NESTING_LIMIT - l.depth) + 5
+decreases-run l = 6 * (nesting_limit - l.depth) + 5
 
 abbrev pub invariant-expand_into-loop-item : goal.invariant-expand_into-loop-item
 invariant-expand_into-loop-item l = record {
@@ -35,7 +35,7 @@ decreases-expand_into-loop-item l = 2 * (token_limit - l.count) + vec_len l.pend
 
 abbrev pub invariant-substitute-loop-piece : goal.invariant-substitute-loop-piece
 invariant-substitute-loop-piece l = record {
-  deep : 0 < length l.args → l.depth < NESTING_LIMIT;
+  deep : 0 < length l.args → l.depth < nesting_limit;
   from : l.from ≤ l.count;
   owed : Adds (table l.macros) l.depth l.place (held l.hides.new) l.from (argument_views l.fn.args) (piece_views l.body) l.initial.new.items l.new.items l.count (argument_views l.args) (piece_views (drop l.piece-index l.body));
 }

@@ -1,7 +1,7 @@
 use Rattle.std.proofs.Common.{arith, refl}
 use Rattle.std.proofs.lemmas.Result.{err_from_is_err_and}
-use Rattle.c_replacement.specs.Views.{view}
-use Rattle.c_replacement.proofs.Gathering.{left_pop, left_none}
+use Rattle.c_items.specs.Views.{view}
+use Rattle.c_items.proofs.Gathering.{left_pop, left_none}
 use Rattle.c_replacement.proofs.Owed.{completes_refused, completes_over, wrote_kept, wrote_moved}
 use Rattle.c_replacement.proofs.replacement.append_left.Goals.{then-branch+in_ok-push_token, else-branch}
 use Rattle.c_replacement.proofs.replacement.append_left.Goals as goal

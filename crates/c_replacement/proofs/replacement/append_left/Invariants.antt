@@ -1,6 +1,6 @@
 use Rattle.std.proofs.Common.{◌+◌, ◌-◌, ◌*◌, vec_len}
 use Rattle.c_tokens.specs.Tokens.{token_limit}
-use Rattle.c_replacement.specs.Views.{left, table}
+use Rattle.c_items.specs.Views.{left, table}
 use Rattle.c_replacement.proofs.Owed.{Wrote}
 use Rattle.c_replacement.proofs.replacement.append_left.Given as goal
 

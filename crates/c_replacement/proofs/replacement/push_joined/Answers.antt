@@ -1,6 +1,6 @@
 use Rattle.std.proofs.Common.{refl, arith}
 use Rattle.std.proofs.lemmas.List.{append-nil}
-use Rattle.c_replacement.specs.HideSets.{held}
+use Rattle.c_items.specs.HideSets.{held}
 use Rattle.c_replacement.proofs.Arguments.{hidden_more}
 use Rattle.c_replacement.proofs.replacement.push_joined.Goals as goal
 

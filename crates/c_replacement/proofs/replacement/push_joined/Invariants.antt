@@ -1,8 +1,8 @@
 use Rattle.std.proofs.Common.{◌≡◌, ◌++◌, map, take}
 use Rattle.c_expansion.specs.Replacement.{hidden}
 use Rattle.c_expansion.specs.Turns.{union}
-use Rattle.c_replacement.specs.HideSets.{held}
-use Rattle.c_replacement.specs.Views.{views}
+use Rattle.c_items.specs.HideSets.{held}
+use Rattle.c_items.specs.Views.{views}
 use Rattle.c_replacement.proofs.replacement.push_joined.Given as goal
 
 abbrev pub invariant-loop-item : goal.invariant-loop-item

@@ -1,5 +1,5 @@
 use Rattle.c_expansion.proofs.ReplacementLaws.{only_outcome}
-use Rattle.c_replacement.specs.Views.{views, table}
+use Rattle.c_items.specs.Views.{views, table}
 use Rattle.c_replacement.proofs.Arguments.{turned}
 use Rattle.c_replacement.proofs.replacement.replace.Goals as goal
 

@@ -1,0 +1,4 @@
+pub mod Tables
+pub mod Pairs
+pub mod Parameters
+pub mod Searches

@@ -1,0 +1,3 @@
+pub mod HideSets
+pub mod Views
+pub mod Gathering

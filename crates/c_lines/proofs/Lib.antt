@@ -1,0 +1,3 @@
+pub mod Fronts
+pub mod Asking
+pub mod Holding
