@@ -1,21 +1,13 @@
 //! The program: reads its words, and runs the command on real files and on the standard streams.
 #![tactic(auto)]
 
-mod failures;
-mod files;
-mod streams;
-#[cfg(test)]
-mod tests;
-mod transfer;
-
 use fc_base::{NoMemory, Sink, Words};
-use files::FileStore;
 use fort_driver::{Outcome, fault_line, fort, status};
+use fort_files::{FileStore, StdSink, StdSource};
 use std::env;
 use std::io::ErrorKind;
 use std::process::ExitCode;
 use std::rt::Env;
-use streams::{StdSink, StdSource};
 
 /// What is printed where no memory is left for the words.
 const NO_MEMORY_LINE: &[u8] = b"fortc: no memory\n";

@@ -9,7 +9,7 @@ use Rattle.fc_base.specs.declared.faults.FetchFault.{FetchFault}
 use Rattle.fc_base.specs.declared.faults.FetchFault.TheVariants as fetch_faults
 use Rattle.fc_base.specs.declared.faults.KeepFault.{KeepFault}
 use Rattle.fc_base.specs.declared.faults.KeepFault.TheVariants as keep_faults
-use Rattle.fortc.specs.Failures.{times}
+use Rattle.fort_files.specs.Failures.{times}
 
 -- the name that is added is there once more
 pub times_of_added : (names : List (List ℕ)) (name : List ℕ) → times (names ++ name ∷ []) name ≡ times names name + 1

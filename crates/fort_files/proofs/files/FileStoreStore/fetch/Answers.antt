@@ -1,7 +1,7 @@
 use Rattle.std.proofs.Common.{min, ap}
 use Rattle.fc_base.specs.Outside.{last_count}
-use Rattle.fortc.proofs.FailureCounts.{times_elsewhere, fetch_failed}
-use Rattle.fortc.proofs.files.FileStoreStore.fetch.Goals as goal
+use Rattle.fort_files.proofs.FailureCounts.{times_elsewhere, fetch_failed}
+use Rattle.fort_files.proofs.files.FileStoreStore.fetch.Goals as goal
 
 pub returns-clause-other_fetches : goal.returns-clause-other_fetches
 returns-clause-other_fetches g c =

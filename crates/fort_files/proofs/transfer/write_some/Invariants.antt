@@ -1,6 +1,6 @@
 use Rattle.std.proofs.Common.{[]}
 use Rattle.fc_base.specs.Outside.{Appends}
-use Rattle.fortc.proofs.transfer.write_some.Given as goal
+use Rattle.fort_files.proofs.transfer.write_some.Given as goal
 
 -- no byte has been written
 abbrev pub invariant-loop : goal.invariant-loop

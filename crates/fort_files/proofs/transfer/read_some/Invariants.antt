@@ -1,6 +1,6 @@
 use Rattle.std.proofs.Common.{[]}
 use Rattle.fc_base.specs.Outside.{Takes}
-use Rattle.fortc.proofs.transfer.read_some.Given as goal
+use Rattle.fort_files.proofs.transfer.read_some.Given as goal
 
 -- no byte has been taken
 abbrev pub invariant-loop : goal.invariant-loop

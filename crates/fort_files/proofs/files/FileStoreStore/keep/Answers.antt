@@ -1,7 +1,7 @@
 use Rattle.std.proofs.Common.{min, ap}
 use Rattle.fc_base.specs.Outside.{last_count}
-use Rattle.fortc.proofs.FailureCounts.{times_elsewhere, keep_failed}
-use Rattle.fortc.proofs.files.FileStoreStore.keep.Goals as goal
+use Rattle.fort_files.proofs.FailureCounts.{times_elsewhere, keep_failed}
+use Rattle.fort_files.proofs.files.FileStoreStore.keep.Goals as goal
 
 pub returns-clause-other_keeps : goal.returns-clause-other_keeps
 returns-clause-other_keeps g c =

@@ -1,6 +1,6 @@
 use Rattle.std.proofs.Common.{◌-◌, ◌≤◌, take, length}
 use Rattle.fc_base.specs.Outside.{Appends}
-use Rattle.fortc.proofs.transfer.write_whole.Given as goal
+use Rattle.fort_files.proofs.transfer.write_whole.Given as goal
 
 -- the bytes before `done` are written
 abbrev pub invariant-loop-done : goal.invariant-loop-done

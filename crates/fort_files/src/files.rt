@@ -4,7 +4,7 @@
 
 ghost use Rattle.std.specs.Prelude.{◌≡◌, ◌≢◌, ◌≤◌, [], ◌∷◌, ◌++◌, None, Err, min, vec_len, IfOk};
 ghost use Rattle.fc_base.specs.Outside.{last_count};
-ghost use Rattle.fortc.specs.Failures.{times};
+ghost use Rattle.fort_files.specs.Failures.{times};
 
 use crate::failures::Failures;
 use crate::transfer::{read_at_most, write_whole};

@@ -2,7 +2,7 @@
 
 ghost use Rattle.std.specs.Prelude.{◌≡◌, ℕ, ◌-◌, List, [], ◌∷◌, ◌++◌, length, map, take, min, OnOk, OnErr, string_bytes};
 ghost use Rattle.fc_base.specs.Outside.{last_count};
-ghost use Rattle.fortc.specs.Failures.{times};
+ghost use Rattle.fort_files.specs.Failures.{times};
 
 use fc_base::NoMemory;
 use std::alloc::Global;

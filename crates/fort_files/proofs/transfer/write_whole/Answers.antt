@@ -1,6 +1,6 @@
 use Rattle.std.proofs.Common.{◌+◌, rules}
-use Rattle.fortc.proofs.KnownBytes.{appends_next, appends_front, after_error}
-use Rattle.fortc.proofs.transfer.write_whole.Goals as goal
+use Rattle.fort_files.proofs.KnownBytes.{appends_next, appends_front, after_error}
+use Rattle.fort_files.proofs.transfer.write_whole.Goals as goal
 
 pub returns-in_err-count-clause-front_appended : goal.returns-in_err-count-clause-front_appended
 returns-in_err-count-clause-front_appended g c =

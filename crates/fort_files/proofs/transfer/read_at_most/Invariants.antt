@@ -1,6 +1,6 @@
 use Rattle.std.proofs.Common.{◌≤◌, vec_len}
 use Rattle.fc_base.specs.Outside.{Takes}
-use Rattle.fortc.proofs.transfer.read_at_most.Given as goal
+use Rattle.fort_files.proofs.transfer.read_at_most.Given as goal
 
 -- the bytes so far are few enough, and are all that was taken
 abbrev pub invariant-loop : goal.invariant-loop
