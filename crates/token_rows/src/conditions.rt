@@ -1,5 +1,6 @@
 //! Conditions, with the answers that C11 6.6 and the rules of the subset give them, worked out by hand.
 
+use crate::values::assert_same;
 use c_conditions::condition;
 use c_tokens::{NumberKind, Punct, TokenKind};
 use fc_base::{NoMemory, Text};
@@ -96,7 +97,8 @@ fn assert_decided(
     want: Option<bool>,
 ) -> Result<(), NoMemory> {
     for &text in texts {
-        assert_eq!(rt; decided(alloc, text)?, want, "{text}");
+        let decision = decided(alloc, text)?;
+        assert_same(rt, (text, decision), (text, want));
     }
     Ok(())
 }

@@ -12,3 +12,5 @@ mod macros;
 mod spellings;
 #[cfg(test)]
 mod texts;
+#[cfg(test)]
+mod values;

@@ -1,6 +1,7 @@
 //! Sources, with the tokens or the refusal that C11 6.10 and the rules of this preprocessor give them.
 
-use crate::texts::{assert_same, lexed, push_fault, push_kind, push_place};
+use crate::texts::{lexed, push_fault, push_kind, push_place};
+use crate::values::assert_same;
 use c_macros::expand;
 use c_tokens::Token;
 use fc_base::{Fault, Level};
@@ -615,7 +616,7 @@ fn limits(rt: HostRuntime) -> Result<(), Fail> {
     let alloc = rt.alloc();
     assert_nested(&rt, alloc, 200, "1d0 ")?;
     assert_nested(&rt, alloc, 201, "macro-arguments 2:401")?;
-    assert_eq!(rt; doubled_count(alloc, 17), Ok(262_144));
+    assert_same(&rt, doubled_count(alloc, 17), Ok(262_144));
     assert_doubled(&rt, alloc, 19, "limit-tokens 21:1")?;
     Ok(())
 }

@@ -2,6 +2,7 @@
 
 ghost use Rattle.c_tokens.specs.Pieces.{IsLexedKind};
 
+use crate::values::assert_same;
 use c_tokens::{HeaderId, NumberKind, Punct, Token, TokenKind, spelling};
 use fc_base::{NoMemory, Place, Text};
 use std::alloc::Global;
@@ -23,7 +24,8 @@ fn assert_spelled(
         starts_line: true,
         spaced: false,
     };
-    assert_eq!(rt; spelling(alloc, &token)?.bytes(), text);
+    let spelled = spelling(alloc, &token)?;
+    assert_same(rt, spelled.bytes(), text);
     Ok(())
 }
 

@@ -4,7 +4,6 @@ use c_lexer::tokens;
 use c_tokens::{NumberKind, Token, TokenKind};
 use fc_base::{Fault, Refusal};
 use std::alloc::{AllocError, Global};
-use std::process::Abort;
 
 fn push_bytes(out: &mut String, bytes: &[u8]) -> Result<(), AllocError> {
     for b in bytes {
@@ -61,10 +60,6 @@ pub fn push_fault(out: &mut String, fault: Fault) -> Result<(), AllocError> {
         }
         Fault::NoMemory => out.push_str("no memory"),
     }
-}
-
-pub fn assert_same(rt: &impl Abort, got: &str, want: &str) {
-    assert_eq!(rt; got, want);
 }
 
 /// The tokens of a source that is not too long.
