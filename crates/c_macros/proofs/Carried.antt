@@ -1,5 +1,5 @@
 -- What the loop over directives and texts keeps: whatever the rest comes to completes the whole.
-use Rattle.std.proofs.Common.{◌≡◌, ℕ, ◌+◌, true, false, List, [], ◌++◌, take, drop, get_or, map, Result, Ok, Err, refl, sym, ap, subst, ◌∙◌, append_assoc}
+use Rattle.std.proofs.Common.{◌≡◌, ℕ, ◌+◌, true, false, List, [], ◌++◌, take, drop, get_or, map, Result, Ok, Err, refl, sym, ap, ◌∙◌, append_assoc}
 use Rattle.std.proofs.lemmas.List.{append-nil}
 use Rattle.fc_base.specs.Answers.{Answers, Fails}
 use Rattle.fc_base.specs.declared.Fault.{Fault}
@@ -23,19 +23,12 @@ comes_to e (refused_text x) stops = of_refused_text e x
 comes_to e (by_condition x d) f = condition e x d f
 comes_to e (refused_condition x) stops = of_refused_condition e x
 
-behind_nothing : (out : Expanded) → out ≡ behind [] out
-behind_nothing (Ok ts) = refl
-behind_nothing (Err e) = refl
-
 behind_more : (a b : List Token) (out : Expanded) → behind (a ++ b) out ≡ behind a (behind b out)
 behind_more a b (Ok ts) = ap (λ (xs : List Token). Ok xs) (append_assoc a b ts)
 behind_more a b (Err e) = refl
 
 pub record Carries (start : State) (from : ℕ) (all before : List Token) (st : State) (count : ℕ) (rest : List Token) : Type 0 where
   pub carries : (out : Expanded) → Moved st count rest out → Moved start from all (behind before out)
-
-pub carries_at_start : (st : State) (count : ℕ) (all : List Token) → Carries st count all [] st count all
-carries_at_start st count all = record { carries = λ out r. subst (λ (o : Expanded). Moved st count all o) (behind_nothing out) r }
 
 module _ (start : State) (from : ℕ) (all before : List Token) (st : State) (count : ℕ) (ts : List Token) (k : Carries start from all before st count ts) where
   -- a part that goes on
