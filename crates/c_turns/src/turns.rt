@@ -1,6 +1,6 @@
 //! What a token does: it stays, or it and the arguments after it are replaced.
 
-ghost use Rattle.std.specs.Prelude.{◌≡◌, ℕ, ◌≤◌, ◌<◌, ◌+◌, IfOk, MatchBool, option_map, vec_len, drop, true, Some, Ok};
+ghost use Rattle.std.specs.Prelude.{◌≡◌, ℕ, ◌≤◌, ◌<◌, ◌+◌, IfOk, MatchBool, option_map, vec_len, drop, true, Some};
 ghost use Rattle.c_expansion.specs.Turns.{intersection, with_name, meaning_of, opens_next, called_with, call, by_meaning};
 ghost use Rattle.c_items.specs.HideSets.{held};
 ghost use Rattle.c_items.specs.Views.{left, view, meaning_view, piece_views, table};
@@ -11,6 +11,7 @@ use c_items::{
     right_number,
 };
 use c_tokens::{Punct, TokenKind};
+use fc_base::both;
 use smallvec::SmallVec;
 use std::alloc::{AllocError, Global};
 
@@ -78,16 +79,6 @@ fn is_too_deep(depth: u32) -> bool
     ensures { MatchBool result (NESTING_LIMIT ≤ depth) (depth < NESTING_LIMIT) }
 {
     depth >= NESTING_LIMIT
-}
-
-/// Both parts, if the second was made.
-fn both<A: Drop, B>(first: A, second: Result<B, AllocError>) -> Result<(A, B), AllocError>
-    ensures { IfOk result (λ x. (x.0 ≡ first) × (second ≡ Ok x.1)) }
-{
-    match second {
-        Ok(second) => Ok((first, second)),
-        Err(fault) => Err(fault),
-    }
 }
 
 /// A call, at its opening bracket.

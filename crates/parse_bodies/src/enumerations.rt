@@ -8,10 +8,11 @@ ghost use Rattle.parse_tokens.specs.Gives.{Gives};
 use c_grammar::Terminal;
 use c_tokens::Punct;
 use c_tree::Enumerator;
+use fc_base::both;
 use parse_ends::{copy_identifier, take_enumerators_end};
 use parse_roles::CONDITIONAL;
 use parse_terms::expression;
-use parse_tokens::{ParseFault, Tall, Tokens, both};
+use parse_tokens::{ParseFault, Tall, Tokens};
 use sqlite_items::Items;
 use std::alloc::Global;
 

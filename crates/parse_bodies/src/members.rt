@@ -9,10 +9,11 @@ ghost use Rattle.parse_parts.specs.Counts.{GivesCounted, GivesSpecs, total};
 ghost use Rattle.parse_bodies.specs.Nests.{NestsSpecs};
 
 use c_tree::{Declarator, MemberDecl};
+use fc_base::both;
 use parse_declarators::declarator;
 use parse_ends::{take_body_end, take_declarators_end};
 use parse_parts::{Context, Counted, SpecList};
-use parse_tokens::{ParseFault, Tall, Tokens, both, kept};
+use parse_tokens::{ParseFault, Tall, Tokens, kept};
 use sqlite_items::Items;
 use std::alloc::Global;
 

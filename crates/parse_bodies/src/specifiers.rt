@@ -13,10 +13,10 @@ use crate::members::Bodies;
 use c_grammar::{Keyword, Terminal};
 use c_tokens::{Punct, Token};
 use c_tree::{Aggregate, Spec};
-use fc_base::Place;
+use fc_base::{Place, both};
 use parse_ends::copy_identifier;
 use parse_parts::{Counted, SpecList, Tally, plain_spec};
-use parse_tokens::{ParseFault, Tall, Tokens, both, is_tag};
+use parse_tokens::{ParseFault, Tall, Tokens, is_tag};
 use std::alloc::Global;
 
 /// A structure, union or enumeration as a specifier.

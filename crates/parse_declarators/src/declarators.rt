@@ -14,10 +14,10 @@ use crate::params::Declarators;
 use c_grammar::Terminal;
 use c_tokens::Punct;
 use c_tree::{Declarator, Expr, Params, PointerWord};
-use fc_base::Place;
+use fc_base::{Place, both};
 use parse_parts::{boxed_behind, pointer_words};
 use parse_terms::bound;
-use parse_tokens::{ParseFault, Tall, Tokens, both, copy_text, kept, text_of};
+use parse_tokens::{ParseFault, Tall, Tokens, copy_text, kept, text_of};
 use sqlite_items::{Boxed, Items};
 use std::alloc::{AllocError, Global};
 

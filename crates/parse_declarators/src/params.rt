@@ -11,11 +11,11 @@ use crate::named::Named;
 use c_grammar::{Keyword, Terminal};
 use c_tokens::Punct;
 use c_tree::{Param, Params};
-use fc_base::Place;
+use fc_base::{Place, both};
 use parse_ends::{names, take_params_end};
 use parse_parts::{Context, SpecList, plain_specs};
 use parse_terms::abstract_declarator;
-use parse_tokens::{ParseFault, Tall, Tokens, both};
+use parse_tokens::{ParseFault, Tall, Tokens};
 use sqlite_items::Items;
 use std::alloc::Global;
 

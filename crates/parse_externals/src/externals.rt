@@ -15,13 +15,13 @@ ghost use Rattle.parse_externals.specs.Externals.{brace_at, declared_from, exter
 use c_grammar::Terminal;
 use c_tokens::{HeaderId, Punct, Token, TokenKind};
 use c_tree::{Declarator, External, InitDeclarator, Stmt};
-use fc_base::{NoMemory, Place, Text};
+use fc_base::{NoMemory, Place, Text, both};
 use parse_bodies::outer_specs;
 use parse_declarators::{Named, declarator};
 use parse_inits::{Declared, NamedInits, init_declarators};
 use parse_parts::{SpecList, Tally};
 use parse_statements::block_items;
-use parse_tokens::{ParseFault, Tall, Tokens, both, kept};
+use parse_tokens::{ParseFault, Tall, Tokens, kept};
 use sqlite_items::Items;
 use std::alloc::Global;
 

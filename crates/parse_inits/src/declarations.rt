@@ -13,10 +13,11 @@ use crate::initialisers::initialiser;
 use c_grammar::{Keyword, Terminal};
 use c_tokens::Punct;
 use c_tree::{Attribute, Init, InitDeclarator, Spec};
+use fc_base::both;
 use parse_declarators::{Named, Nearest, declarator};
 use parse_ends::take_declarators_end;
 use parse_parts::{Context, SpecList, attribute_list, plain_specs};
-use parse_tokens::{ParseFault, Tall, Tokens, both, kept};
+use parse_tokens::{ParseFault, Tall, Tokens, kept};
 use sqlite_items::Items;
 use std::alloc::Global;
 

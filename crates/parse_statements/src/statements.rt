@@ -18,9 +18,9 @@ use crate::simple_statements::{
 use c_grammar::{Keyword, Terminal};
 use c_tokens::Punct;
 use c_tree::{Expr, Stmt};
-use fc_base::Place;
+use fc_base::{Place, both};
 use parse_ends::take_body_end;
-use parse_tokens::{ParseFault, Tall, Tokens, before_semicolon, both};
+use parse_tokens::{ParseFault, Tall, Tokens, before_semicolon};
 use sqlite_items::{Boxed, Items};
 use std::alloc::Global;
 

@@ -13,12 +13,12 @@ use crate::terms::Terms;
 use c_grammar::{Role, Terminal};
 use c_tokens::Punct;
 use c_tree::Expr;
-use fc_base::Place;
+use fc_base::{Place, both};
 use parse_nodes::{Left, Tail, with_tail};
 use parse_roles::{ASSIGNMENT, CONDITIONAL, EXPRESSION, binds, role_of, role_takes};
 use parse_tokens::{
-    ParseFault, Tall, Tokens, before_colon, before_right_bracket, before_right_paren, both,
-    copy_text, is_tag, kept,
+    ParseFault, Tall, Tokens, before_colon, before_right_bracket, before_right_paren, copy_text,
+    is_tag, kept,
 };
 use sqlite_items::Items;
 use std::alloc::Global;

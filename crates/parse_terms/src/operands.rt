@@ -17,11 +17,11 @@ use crate::terms::Terms;
 use c_grammar::{Keyword, Terminal};
 use c_tokens::{Punct, Token, TokenKind};
 use c_tree::{Expr, ExprKind, PrefixOp, TypeName};
-use fc_base::Place;
+use fc_base::{Place, both};
 use parse_nodes::{Left, boxed_pair};
 use parse_parts::{boxed_behind, strings};
 use parse_roles::{ASSIGNMENT, CAST, CONDITIONAL, EXPRESSION, POSTFIX, PRIMARY, UNARY};
-use parse_tokens::{ParseFault, Tall, Tokens, before_comma, before_right_paren, both, copy_text};
+use parse_tokens::{ParseFault, Tall, Tokens, before_comma, before_right_paren, copy_text};
 use sqlite_items::Boxed;
 use std::alloc::{AllocError, Global};
 

@@ -1,7 +1,7 @@
-//! What becomes of a part that has been read where reading fails behind it. A part of any type is let go here, so that
-//! the functions that read on hold none where they may fail.
+//! What becomes of a part that has been read where a test fails behind it. A part of any type is let go here, so that the
+//! functions that read on hold none where they may fail.
 
-ghost use Rattle.std.specs.Prelude.{◌≡◌, IfOk, IfErr, Ok, Err, true, false};
+ghost use Rattle.std.specs.Prelude.{◌≡◌, IfOk, IfErr, true, false};
 ghost use Rattle.parse_tokens.specs.declared.faults.ParseFault.TheVariants as fault;
 
 use crate::faults::ParseFault;
@@ -15,16 +15,5 @@ pub fn kept<T: Drop>(part: T, holds: bool) -> Result<T, ParseFault>
         Ok(part)
     } else {
         Err(ParseFault::NoDerivation)
-    }
-}
-
-/// Both parts, if the second was read.
-pub fn both<A: Drop, B>(first: A, second: Result<B, ParseFault>) -> Result<(A, B), ParseFault>
-    ensures ok { IfOk result (λ x. (x.0 ≡ first) × (second ≡ Ok x.1)) }
-    ensures err { IfErr result (λ e. second ≡ Err e) }
-{
-    match second {
-        Ok(second) => Ok((first, second)),
-        Err(fault) => Err(fault),
     }
 }

@@ -15,7 +15,7 @@ pub use endings::{
     before_colon, before_comma, before_right_bracket, before_right_paren, before_semicolon,
 };
 pub use faults::{ParseFault, Tall};
-pub use held::{both, kept};
+pub use held::kept;
 pub use terminals::{is_tag, is_word};
 pub use tokens::Tokens;
 pub use type_names::TypeNames;

@@ -12,10 +12,10 @@ use crate::grammar::Grammar;
 use c_grammar::Terminal;
 use c_tokens::Punct;
 use c_tree::{Declarator, Expr, PointerWord, TypeName};
-use fc_base::Place;
+use fc_base::{Place, both};
 use parse_parts::{Context, boxed_behind, plain_specs, pointer_words, stars};
 use parse_roles::CONDITIONAL;
-use parse_tokens::{ParseFault, Tall, Tokens, before_right_bracket, both, kept};
+use parse_tokens::{ParseFault, Tall, Tokens, before_right_bracket, kept};
 use sqlite_items::{Boxed, Items};
 use std::alloc::{AllocError, Global};
 
