@@ -38,40 +38,16 @@ fn number(tokens: &mut [Token]) {
 }
 
 /// The tree, and where the span's end is, but for the end of the tokens.
-fn push_found(out: &mut Output, found: &Result<(Expr, usize), ParseFault>, count: usize) {
-    match found {
-        Ok((tree, end)) => {
-            push_expr(out, tree, 20);
-            if *end < count {
-                out.push_count(" to ", *end, "");
-            }
-        }
-        Err(ParseFault::NoDerivation) => out.push_str("none"),
-        Err(ParseFault::NoMemory) => out.push_str("no memory"),
-    }
-}
-
-fn found_text(
-    alloc: Global,
-    found: &Result<(Expr, usize), ParseFault>,
-    count: usize,
-) -> Result<String, Fault> {
+fn spanned_text(alloc: Global, tree: &Expr, end: usize, count: usize) -> Result<String, Fault> {
     let mut out = Output::new(alloc);
-    push_found(&mut out, found, count);
+    push_expr(&mut out, tree, 20);
+    if end < count {
+        out.push_count(" to ", end, "");
+    }
     Ok(out.finish()?)
 }
 
 /// The expression that the tokens begin with behind so many of them.
-fn parsed(
-    alloc: Global,
-    tokens: &[Token],
-    at: usize,
-    form: ExprForm,
-    names: &TypeNames,
-) -> Result<(Expr, usize), ParseFault> {
-    parse_expression(alloc, tokens, at.min(tokens.len()), form, names)
-}
-
 fn first(
     alloc: Global,
     tokens: &[Token],
@@ -79,8 +55,11 @@ fn first(
     form: ExprForm,
     names: &TypeNames,
 ) -> Result<String, Fault> {
-    let found = parsed(alloc, tokens, at, form, names);
-    found_text(alloc, &found, tokens.len())
+    match parse_expression(alloc, tokens, at.min(tokens.len()), form, names) {
+        Ok((tree, end)) => spanned_text(alloc, &tree, end, tokens.len()),
+        Err(ParseFault::NoDerivation) => Ok(String::from_str(alloc, "none")?),
+        Err(ParseFault::NoMemory) => Err(Fault::NoMemory),
+    }
 }
 
 /// The same where the names of types are those of these rows.
