@@ -2,7 +2,7 @@
 
 ghost use Rattle.std.specs.Prelude.{◌≡◌, IfOk, option_map, map, find, true, not, ◌++◌, ◌∷◌, []};
 ghost use Rattle.std.specs.List.{list_any, position};
-ghost use Rattle.c_expansion.specs.Macros.{opens, same_name};
+ghost use Rattle.c_expansion.specs.Macros.{same_name};
 ghost use Rattle.c_expansion.specs.Definitions.{macro_name, separator, some_parameters, parameters_of, distinct, opens_at_once, defined_as, definition, named_piece, piece, is_operator};
 ghost use Rattle.c_items.specs.Views.{names, piece_view, piece_views, meaning_view};
 ghost use Rattle.c_definitions.specs.Views.{definition_view, parameters_view, with_rest, meaning_of};

@@ -3,7 +3,7 @@
 ghost use Rattle.std.specs.Prelude.{◌≡◌, ◌==◌};
 ghost use Rattle.std.specs.Cmp.Lexicographic.{pointwise};
 ghost use Rattle.c_expansion.specs.Macros.{same_name};
-ghost use Rattle.c_expansion.specs.Sameness.{punct_number, same_header, same_number, same_kind, same_piece, same_parameters, same_meaning};
+ghost use Rattle.c_expansion.specs.Sameness.{punct_number, same_header, same_number, same_kind, same_piece, same_meaning};
 ghost use Rattle.c_items.specs.Views.{names, piece_view, piece_views, meaning_view};
 
 use c_items::{Macro, Piece};

@@ -38,10 +38,6 @@ nameless = record { ref_ptr = (0, 0); now = [] }
 pub rest_ascends : (set : List (Bor (List ℕ))) (i : ℕ) → i < length set → IsStrictlySortedBy by_bytes (names (drop i set)) → IsStrictlySortedBy by_bytes (names (drop (i + 1) set))
 rest_ascends set i lt s = sorted_rest by_bytes (names (drop i set)) (names (drop (i + 1) set)) (get_or set i nameless).now (dropped set i nameless lt) s
 
-pub held_contains : (set : List (Bor (List ℕ))) (name : Name) → list_any (λ r. same_name r.now name) set ≡ held (names set) name
-held_contains [] name = refl
-held_contains (r ∷ set) name = λ i. nat_list_eq_equiv.symm r.now name i || held_contains set name i
-
 -- ---- a set's test is membership by the order
 
 by_order : held ≡ in_names

@@ -1,6 +1,6 @@
 //! The arguments of a macro call (C11 6.10.3p10 and p11).
 
-ghost use Rattle.std.specs.Prelude.{◌≡◌, ℕ, ◌+◌, ◌≤◌, ◌^◌, ◌<◌, IfOk, vec_len, [], ◌∷◌};
+ghost use Rattle.std.specs.Prelude.{◌≡◌, ◌+◌, ◌≤◌, ◌^◌, ◌<◌, IfOk, vec_len, [], ◌∷◌};
 ghost use Rattle.c_expansion.specs.Turns.{action, call, is_empty, right_number};
 ghost use Rattle.c_items.specs.Views.{left, views, argument_view, argument_views};
 ghost use Rattle.c_items.specs.Gathering.{action_view, ClosesAs, GathersAs, IsNear};

@@ -3,7 +3,7 @@
 ghost use Rattle.std.specs.Prelude.{◌≡◌, IfOk, OnOk, false, codes, [], ◌∷◌, ◌++◌};
 ghost use Rattle.c_expansion.specs.Definitions.{null, end_of_file, number_macro, plain_macro, header_macros, fortify_source};
 ghost use Rattle.c_expansion.specs.Macros.{plain};
-ghost use Rattle.c_items.specs.Views.{meaning_view, piece_view, piece_views};
+ghost use Rattle.c_items.specs.Views.{meaning_view, piece_views};
 ghost use Rattle.c_lines.specs.Lines.{entry_view, entry_views};
 
 use crate::builtins::{Builtins, Entry};

@@ -1,16 +1,15 @@
 //! What directives do (C11 6.10.1 to 6.10.3). Each gives the token of an inclusion, or none.
 
-ghost use Rattle.std.specs.Prelude.{◌≡◌, ℕ, IfOk, option_map, option_to_list, reverse, if◌then◌else◌, Some, None, true, false, ◌++◌, ◌∷◌};
-ghost use Rattle.c_expansion.specs.Macros.{Macros, with_macro};
+ghost use Rattle.std.specs.Prelude.{◌≡◌, IfOk, option_map, option_to_list, reverse, if◌then◌else◌, Some, None, true, false, ◌∷◌};
+ghost use Rattle.c_expansion.specs.Macros.{Macros};
 ghost use Rattle.c_expansion.specs.Definitions.{definition, meaning, header_macros};
 ghost use Rattle.c_expansion.specs.Moves as moves;
-ghost use Rattle.c_expansion.specs.Moves.{with_definition, with_definitions, only_name, only_header, header_token, group, skipped_group};
+ghost use Rattle.c_expansion.specs.Moves.{with_definition, with_definitions, only_name, only_header, header_token, group};
 ghost use Rattle.c_expansion.specs.Sameness as sameness;
 ghost use Rattle.std.specs.List.{list_any};
 ghost use Rattle.c_items.specs.Views.{table, meaning_view};
 ghost use Rattle.c_macros.specs.States.{state, GoesAs};
 ghost use Rattle.c_lines.specs.Lines.{entry_views};
-ghost use Rattle.c_definitions.specs.Views.{definition_view};
 ghost use Rattle.c_macros.specs.Doing.{DoesAs};
 
 use c_definitions::{

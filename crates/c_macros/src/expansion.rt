@@ -1,9 +1,9 @@
 //! The whole list, directive by directive and text by text.
 
-ghost use Rattle.std.specs.Prelude.{◌≡◌, ◌++◌, ◌≤◌, length, List, [], IfOk, OnOk, map, reverse};
+ghost use Rattle.std.specs.Prelude.{◌≡◌, length, [], IfOk, reverse};
 ghost use Rattle.std.specs.List.{All};
 ghost use Rattle.fc_base.specs.Answers.{Answers};
-ghost use Rattle.c_expansion.specs.Macros.{Macros, items, no_macros};
+ghost use Rattle.c_expansion.specs.Macros.{Macros, items};
 ghost use Rattle.c_expansion.specs.Expansion.{Expanded, IsExpanded, Moved};
 ghost use Rattle.c_tokens.specs.Pieces.{IsLexedKind};
 ghost use Rattle.c_expansion.specs.Moves as moves;

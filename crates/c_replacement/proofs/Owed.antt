@@ -1,5 +1,5 @@
 -- What the loops keep: whatever the rest gives completes the whole.
-use Rattle.std.proofs.Common.{◌≡◌, ℕ, ◌+◌, ◌≤◌, ◌<◌, Bool, List, [], ◌∷◌, ◌++◌, map, length, Option, Some, Ok, Err, refl, sym, ap, ◌∙◌, subst, append_assoc}
+use Rattle.std.proofs.Common.{◌≡◌, ℕ, ◌+◌, ◌≤◌, ◌<◌, Bool, List, [], ◌∷◌, ◌++◌, map, length, Option, Some, Ok, Err, refl, sym, ap, ◌∙◌, append_assoc}
 use Rattle.std.specs.List.{slice_get}
 use Rattle.std.proofs.lemmas.List.{append-nil, map-append}
 use Rattle.fc_base.specs.declared.Place.{Place}
@@ -15,10 +15,6 @@ use Rattle.c_items.specs.Views.{views}
 use Rattle.c_expansion.specs.Turns.{meaning_of, Turn, turn, by_meaning, stays, bad_call, becomes}
 use Rattle.c_expansion.specs.Replacement.{Outcome, after, replacing, hidden, argument_text, too_many_at, bad_call_at, Expands, over, kept, refused_call, refused_argument, too_many, replaced, Substitutes, whole, own, refused, of_argument, Readies}
 
-after_nothing : (out : Outcome) → out ≡ after [] out
-after_nothing (Ok r) = refl
-after_nothing (Err e) = refl
-
 after_more : (front new : List Item) (out : Outcome) → after (front ++ new) out ≡ after front (after new out)
 after_more front new (Ok r) = ap (λ (ts : List Item). Ok (ts, r.1)) (append_assoc front new r.0)
 after_more front new (Err e) = refl
@@ -27,9 +23,6 @@ after_more front new (Err e) = refl
 
 pub record Completes (ms : Macros) (depth from : ℕ) (all front : List Item) (count : ℕ) (rest : List Item) : Type 0 where
   pub completes : (out : Outcome) → Expands ms depth count rest out → Expands ms depth from all (after front out)
-
-pub completes_at_start : (ms : Macros) (depth count : ℕ) (all : List Item) → Completes ms depth count all [] count all
-completes_at_start ms depth count all = record { completes = λ out r. subst (λ (o : Outcome). Expands ms depth count all o) (after_nothing out) r }
 
 module _ (ms : Macros) (depth from : ℕ) (all front : List Item) (count : ℕ) where
   pub completes_kept : (t : Item) (rest : List Item) → turn ms depth t rest ≡ stays
@@ -53,10 +46,6 @@ module _ (ms : Macros) (depth from : ℕ) (all front : List Item) (count : ℕ) 
 
 pub record Finishes (ms : Macros) (depth : ℕ) (place : Place) (hide : HideSet) (from : ℕ) (args : List Argument) (body : List Piece) (front : List Item) (count : ℕ) (now : List Argument) (rest : List Piece) : Type 0 where
   pub finishes : (out : Outcome) → Substitutes ms depth count place hide now rest out → Substitutes ms depth from place hide args body (after front out)
-
-pub finishes_at_start : (ms : Macros) (depth : ℕ) (place : Place) (hide : HideSet) (from : ℕ) (args : List Argument) (body : List Piece) → Finishes ms depth place hide from args body [] from args body
-finishes_at_start ms depth place hide from args body =
-    record { finishes = λ out r. subst (λ (o : Outcome). Substitutes ms depth from place hide args body o) (after_nothing out) r }
 
 module _ (ms : Macros) (depth : ℕ) (place : Place) (hide : HideSet) (from : ℕ) (args : List Argument) (body : List Piece) (front : List Item) (count : ℕ) (now : List Argument) where
   finishes_plain : (kind : TokenKind) (spaced : Bool) (rest : List Piece) → Finishes ms depth place hide from args body front count now (plain kind spaced ∷ rest)

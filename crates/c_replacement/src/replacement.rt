@@ -1,12 +1,12 @@
 //! Macro replacement, argument by argument and token by token.
 
-ghost use Rattle.std.specs.Prelude.{◌≡◌, ℕ, ◌+◌, ◌-◌, ◌*◌, ◌≤◌, ◌<◌, ◌++◌, IfOk, OnOk, MatchBool, vec_len, map, reverse, take, drop, length, List, [], ◌∷◌};
+ghost use Rattle.std.specs.Prelude.{◌≡◌, ◌+◌, ◌-◌, ◌*◌, ◌≤◌, ◌<◌, ◌++◌, IfOk, OnOk, MatchBool, vec_len, map, reverse, take, drop, length, [], ◌∷◌};
 ghost use Rattle.fc_base.specs.declared.Fault.TheVariants.{Refused};
 ghost use Rattle.c_tokens.specs.Tokens.{token_limit};
 ghost use Rattle.fc_base.specs.Answers.{Answers};
 ghost use Rattle.c_expansion.specs.Macros.{token};
 ghost use Rattle.c_expansion.specs.Turns.{union};
-ghost use Rattle.c_expansion.specs.Replacement.{Outcome, replacing, hidden, argument_text, Expands, Substitutes, Readies};
+ghost use Rattle.c_expansion.specs.Replacement.{Outcome, replacing, hidden, Expands, Substitutes, Readies};
 ghost use Rattle.c_items.specs.HideSets.{held};
 ghost use Rattle.c_items.specs.Views.{view, views, left, table, argument_view, argument_views, piece_views};
 ghost use Rattle.c_replacement.specs.Replacing.{text_of, AddsAs, StaysAs, GivesAs};

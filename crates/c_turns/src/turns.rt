@@ -1,6 +1,6 @@
 //! What a token does: it stays, or it and the arguments after it are replaced.
 
-ghost use Rattle.std.specs.Prelude.{◌≡◌, ℕ, ◌≤◌, ◌<◌, ◌+◌, IfOk, MatchBool, option_map, vec_len, drop, true, Some};
+ghost use Rattle.std.specs.Prelude.{◌≡◌, ◌≤◌, ◌<◌, ◌+◌, IfOk, MatchBool, option_map, vec_len, drop, true, Some};
 ghost use Rattle.c_expansion.specs.Turns.{intersection, with_name, meaning_of, opens_next, called_with, call, by_meaning};
 ghost use Rattle.c_items.specs.HideSets.{held};
 ghost use Rattle.c_items.specs.Views.{left, view, meaning_view, piece_views, table};
