@@ -73,10 +73,6 @@ unknown is_new false e f = refl
 abbrev pub behind : List Name → Option Parameters → Option Parameters
 behind front = option_map (λ p. record { names = front ++ p.names; rest = p.rest })
 
-pub behind_nothing : (o : Option Parameters) → behind [] o ≡ o
-behind_nothing None = refl
-behind_nothing (Some p) = refl
-
 behind_more : (front : List Name) (name : Name) (o : Option Parameters) → behind front (with_parameter name o) ≡ behind (front ++ name ∷ []) o
 behind_more front name None = refl
 behind_more front name (Some p) = rw append_assoc refl

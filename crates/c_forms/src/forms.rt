@@ -1,6 +1,6 @@
 //! The one form of source that is compiled so far.
 
-ghost use Rattle.std.specs.Prelude.{◌≡◌, ◌≤◌, length, map};
+ghost use Rattle.std.specs.Prelude.{◌≡◌, map};
 ghost use Rattle.c_expansion.specs.Sameness.{same_kind};
 ghost use Rattle.c_forms.specs.Forms.{form_kinds};
 ghost use Rattle.c_expansion.specs.Origins.{kinds as kinds_of};

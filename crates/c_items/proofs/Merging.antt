@@ -75,10 +75,6 @@ pub none_ascends : (set : List (Bor (List ℕ))) → set ≡ [] → IsStrictlySo
 unfolding IsStrictlySortedBy
 none_ascends set e = rw e tt
 
-or_false : (b : Bool) → (b || false) ≡ b
-or_false true = refl
-or_false false = refl
-
 in_twice : (n other : Name) (set : List Name) (same is : Bool) → (same ≡ true → is ≡ true) → is ≡ ((same || false) || is)
 in_twice n other set true is f = f refl
 in_twice n other set false is f = refl
@@ -86,9 +82,6 @@ in_twice n other set false is f = refl
 -- a name more is none more where the set has it
 pub has_it : (n : Name) (set : List Name) → true ≡ held set n → held set ≡ union (held (n ∷ [])) (held set)
 has_it n set e = λ i other. in_twice n other set (same_name other n) (held set other) (λ same. list_any_congr nat_list_eq_equiv other n set same ∙ sym e) i
-
-pub named_is : (kind : TokenKind) (n : Name) (set : List Name) → kind ≡ Named n → union (held (n ∷ [])) (held set) ≡ with_name kind (held set)
-named_is kind n set e = rw e (λ i other. (or_false (same_name other n) ∙ nat_list_eq_equiv.symm other n) i || held set other)
 
 within : (a b : Bool) → (a || (b || a)) ≡ (b || a)
 within true true = refl

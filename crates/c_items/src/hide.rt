@@ -119,7 +119,7 @@ impl<'a> HideSet<'a> {
     }
 
     /// The set and the name of a token.
-    pub fn with_name(&self, alloc: Global, kind: &'a TokenKind) -> Result<HideSet<'a>, AllocError>
+    fn with_name(&self, alloc: Global, kind: &'a TokenKind) -> Result<HideSet<'a>, AllocError>
         ensures { IfOk result (λ s. held s ≡ with_name kind.now (held self.now)) }
     {
         match kind {

@@ -9,10 +9,6 @@ use Rattle.c_expansion.specs.Moves.{is_defined, asked, answer, before, answered,
 abbrev pub behind : List Item → Option (List Token) → Option (List Item)
 behind front = option_map (λ ts. front ++ items ts)
 
-pub behind_nothing : (o : Option (List Token)) → behind [] o ≡ option_map items o
-behind_nothing None = refl
-behind_nothing (Some ts) = refl
-
 behind_more : (front : List Item) (t : Token) (o : Option (List Token)) → behind front (before t o) ≡ behind (front ++ item t ∷ []) o
 behind_more front t None = refl
 behind_more front t (Some ts) = ap (λ (xs : List Item). Some xs) (sym (append_assoc front (item t ∷ []) (items ts)))

@@ -9,6 +9,4 @@ mod lines;
 pub use builtins::{Builtins, Entry, make_builtins};
 pub use conditions::{holds, item, refuse};
 pub use headers::{fortify_source, header_macros};
-pub use lines::{
-    Part, after, first, header_named, is_defined_word, name_of, part_of, same_name, word_of,
-};
+pub use lines::{Part, after, first, header_named, is_defined_word, name_of, part_of, word_of};

@@ -89,7 +89,7 @@ pub fn name_of(kind: &TokenKind) -> Option<&[u8]>
 }
 
 /// The same bytes.
-pub fn same_name(a: &[u8], b: &[u8]) -> bool
+fn same_name(a: &[u8], b: &[u8]) -> bool
     ensures { result ≡ same_name a.now b.now }
 {
     a == b

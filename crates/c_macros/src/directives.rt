@@ -26,7 +26,7 @@ use fc_base::{Fault, Place, Rule};
 use std::alloc::{AllocError, Global};
 
 /// Adds a macro, and tells whether its name had no other meaning.
-pub fn add_macro<'a>(
+fn add_macro<'a>(
     macros: &mut Macros<'a>,
     name: &'a [u8],
     meaning: Macro<'a>,

@@ -1,4 +1,4 @@
-//! What a token does: it stays, or it and the arguments after it are replaced.
+//! What a token does: it stays, its call is refused, or it and the arguments after it are replaced.
 
 ghost use Rattle.std.specs.Prelude.{◌≡◌, ◌≤◌, ◌<◌, ◌+◌, IfOk, MatchBool, option_map, vec_len, drop, true, Some};
 ghost use Rattle.c_expansion.specs.Turns.{intersection, with_name, meaning_of, opens_next, called_with, call, by_meaning};

@@ -1,9 +1,9 @@
 //! The image that a form is compiled to.
 
-ghost use Rattle.std.specs.Prelude.{◌≡◌, ◌≢◌, ℕ, ◌+◌, List, Err, IfOk};
+ghost use Rattle.std.specs.Prelude.{◌≡◌, ◌+◌, IfOk};
 ghost use Rattle.byte_machine.specs.Images.{plain_image};
 ghost use Rattle.c_forms.specs.Forms.{IsForm};
-ghost use Rattle.fort_driver.specs.Compiled.{form_image, form_weight};
+ghost use Rattle.fort_driver.specs.Compiled.{form_image};
 
 use bm_isa::Instr;
 use byte_machine::{FnRec, Image};

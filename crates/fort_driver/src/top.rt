@@ -1,16 +1,14 @@
 //! The top call.
 
-ghost use Rattle.std.specs.Prelude.{◌≡◌, ◌≢◌, ◌↔◌, ℕ, ◌≤◌, List, [], Option, None, Some, Ok, Err, IfOk, IfErr, OnErr, length, ◌⊎◌};
-ghost use Rattle.fc_base.specs.Outside.{Files, IfTold, Rose};
-ghost use Rattle.fc_base.specs.declared.levels.End.{End};
+ghost use Rattle.std.specs.Prelude.{◌≡◌, ◌↔◌, ℕ, List, [], None, Some, Ok, Err, IfOk, IfErr, ◌⊎◌};
+ghost use Rattle.fc_base.specs.Outside.{Files, Rose};
 ghost use Rattle.fc_base.specs.declared.refusals.Refusal.{Refusal};
 ghost use Rattle.c_forms.specs.Forms.{IsForm};
 ghost use Rattle.byte_machine.specs.Images.{PlainImage, plain_image};
-ghost use Rattle.byte_machine.specs.Opening.{program_of, first_core};
 ghost use Rattle.fort_words.specs.Commands.{IsUsage, default_steps};
 ghost use Rattle.fort_driver.specs.Compiled.{form_image};
 ghost use Rattle.image_bytes.specs.Spelling.{image_bytes};
-ghost use Rattle.fort_driver.specs.Fort.{Keeps, KeepsSome, KeepsCounts, Ran, Runs, HasRun, HasNotRun, StoreFailed, IsRun, IsTooLong, IsRefused, StoodStill, NoneFailed, Answers, Holds, longest_source};
+ghost use Rattle.fort_driver.specs.Fort.{Keeps, KeepsSome, KeepsCounts, Ran, Runs, HasRun, HasNotRun, StoreFailed, IsRun, IsTooLong, IsRefused, StoodStill, NoneFailed, Answers};
 ghost use Rattle.fort_driver.specs.Preparing.{IsReady, NotReady, KeepsOtherCounts};
 
 use crate::compiled::compile;

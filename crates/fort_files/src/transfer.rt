@@ -3,7 +3,7 @@
 //! A call that a signal interrupts is made again. Nothing says that this, or an input, ends, so each loop gives up
 //! with a fault after 2^64 - 1 calls.
 
-ghost use Rattle.std.specs.Prelude.{◌≡◌, ℕ, ◌<◌, ◌≤◌, [], take, length, vec_len, Err, IfOk, OnOk, OnErr};
+ghost use Rattle.std.specs.Prelude.{◌≡◌, ◌<◌, ◌≤◌, [], take, length, vec_len, Err, IfOk, OnOk, OnErr};
 ghost use Rattle.fc_base.specs.Outside.{IfTold, Takes, IsAtEnd, Appends, AppendsFront};
 
 use fc_base::{Failed, FetchFault};

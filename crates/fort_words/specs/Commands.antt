@@ -89,12 +89,3 @@ default_steps = 100000000
 -- the words are no command that is built
 abbrev pub IsUsage : List (List ℕ) → Type 0
 IsUsage words = (command : Command) → IsBuilt command → Means words command → ⊥
-
--- the bound on steps and the arguments of a command, where they are left out
-abbrev pub steps_or_default : Option ℕ → ℕ
-steps_or_default None = default_steps
-steps_or_default (Some n) = n
-
-abbrev pub args_or_none : Option (List (List ℕ)) → List (List ℕ)
-args_or_none None = []
-args_or_none (Some args) = args

@@ -1,7 +1,7 @@
 //! What a command comes to.
 
-ghost use Rattle.std.specs.Prelude.{◌≡◌, List, [], ◌++◌, codes, decimal, IfOk};
-ghost use Rattle.fort_words.specs.Outcomes.{end_status, status_of, place_text, fault_text};
+ghost use Rattle.std.specs.Prelude.{◌≡◌, IfOk};
+ghost use Rattle.fort_words.specs.Outcomes.{end_status, status_of, fault_text};
 
 use fc_base::{End, NoMemory, Place, Refusal, Text, UndefKind};
 use std::alloc::Global;

@@ -1,6 +1,6 @@
 //! The members of structures and unions (C11 6.7.2.1), and lists of specifiers with bodies.
 
-ghost use Rattle.std.specs.Prelude.{◌+◌, ◌≤◌, ◌<◌, ◌^◌, length, IfOk};
+ghost use Rattle.std.specs.Prelude.{◌≤◌, ◌<◌, ◌^◌, length, IfOk};
 ghost use Rattle.c_grammar.specs.Specifiers.{outer};
 ghost use Rattle.c_grammar.specs.Reading.{specs_any, specs_in};
 ghost use Rattle.c_grammar.specs.ReadingDeclarators as spec;

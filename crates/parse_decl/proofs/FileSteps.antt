@@ -25,10 +25,6 @@ abbrev pub behind_all : List External → Declarations → Declarations
 behind_all xs (Ok ys) = Ok (xs ++ ys)
 behind_all xs (Err place) = Err place
 
-pub behind_nothing : (r : Declarations) → r ≡ behind_all [] r
-behind_nothing (Ok ys) = refl
-behind_nothing (Err place) = refl
-
 behind_one : (xs : List External) (x : External) (r : Declarations) → behind_all xs (behind x r) ≡ behind_all (xs ++ x ∷ []) r
 behind_one xs x (Ok ys) = let made : List External → Declarations = λ l. Ok l in ap made (sym (append_assoc xs (x ∷ []) ys))
 behind_one xs x (Err place) = refl

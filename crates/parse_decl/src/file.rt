@@ -1,7 +1,6 @@
 //! A file (C11 6.9).
 
 ghost use Rattle.std.specs.Prelude.{◌≡◌, ℕ, ◌≢◌, ◌-◌, ◌++◌, ◌∷◌, [], List, length, map, drop, Some, None, IfOk, IfErr, OnOk, MatchOption};
-ghost use Rattle.fc_base.specs.declared.rules.Rule.TheVariants as rule;
 ghost use Rattle.c_tokens.specs.declared.tokens.Token.{Token};
 ghost use Rattle.c_grammar.specs.File.{Derives};
 ghost use Rattle.c_grammar.specs.Terminals.{has, lexeme};

@@ -1,6 +1,6 @@
 //! Declarators (C11 6.7.6).
 
-ghost use Rattle.std.specs.Prelude.{◌≡◌, ◌+◌, ◌-◌, ◌≤◌, ◌<◌, ◌^◌, ◌∷◌, [], suc, max, List, Some, length, IfOk, IsTrue};
+ghost use Rattle.std.specs.Prelude.{◌≡◌, ◌+◌, ◌-◌, ◌≤◌, ◌<◌, ◌^◌, suc, max, List, Some, length, IfOk, IsTrue};
 ghost use Rattle.c_grammar.specs.Terminals.{Lexeme};
 ghost use Rattle.c_grammar.specs.Reading.{bounded, expression, found};
 ghost use Rattle.c_grammar.specs.ReadingDeclarators as spec;

@@ -1,6 +1,6 @@
 //! Parameters (C11 6.7.6).
 
-ghost use Rattle.std.specs.Prelude.{◌≡◌, ◌+◌, ◌≤◌, ◌<◌, suc, length, IfOk};
+ghost use Rattle.std.specs.Prelude.{◌+◌, ◌≤◌, ◌<◌, suc, length, IfOk};
 ghost use Rattle.c_grammar.specs.Reading.{expression};
 ghost use Rattle.c_grammar.specs.ReadingDeclarators as spec;
 ghost use Rattle.parse_tokens.specs.Gives.{Gives, Low};

@@ -1,5 +1,5 @@
 -- How far a span goes, and what the reading of its tokens says.
-use Rattle.std.proofs.Common.{◌≡◌, ℕ, zero, suc, ◌<◌, ◌≤◌, List, [], ◌∷◌, length, get_or, drop, take, map, Some, None, Bool, true, false, refl, sym, ap, ◌∙◌, arith}
+use Rattle.std.proofs.Common.{◌≡◌, ℕ, zero, suc, ◌<◌, ◌≤◌, List, [], ◌∷◌, length, take, map, Some, None, Bool, true, false, refl, sym, ap, ◌∙◌, arith}
 use Rattle.std.specs.Prelude.{if◌then◌else◌}
 use Rattle.c_tokens.specs.declared.tokens.Token.{Token}
 use Rattle.c_tree.specs.declared.nodes.Expr.{Expr}
@@ -37,31 +37,6 @@ span_within commas brackets questions [] = omega arith
 span_within commas zero questions (o ∷ s) =
     within_outside (ends commas questions o.kind) o _ s (span_within commas (brackets_after zero o.kind) (questions_after questions o.kind) s)
 span_within commas (suc n) questions (o ∷ s) = omega (arith, span_within commas (brackets_after (suc n) o.kind) questions s)
-
-module _ (commas : Bool) (questions : ℕ) where
-  pub span_stops : (s : List Token) (i : ℕ) (other : Token) → i < length s → ends commas questions (get_or s i other).kind ≡ true → length (span commas 0 questions (drop i s)) ≡ 0
-  span_stops [] i other low e = absurd (omega arith)
-  span_stops (o ∷ s) zero other low e = rw e refl
-  span_stops (o ∷ s) (suc i) other low e = span_stops s i other (omega arith) e
-
-  pub span_outside : (s : List Token) (i : ℕ) (other : Token) → i < length s → ends commas questions (get_or s i other).kind ≡ false →
-      length (span commas 0 questions (drop i s)) ≡ suc (length (span commas (brackets_after 0 (get_or s i other).kind) (questions_after questions (get_or s i other).kind) (drop (suc i) s)))
-  span_outside [] i other low e = absurd (omega arith)
-  span_outside (o ∷ s) zero other low e = rw e refl
-  span_outside (o ∷ s) (suc i) other low e = span_outside s i other (omega arith) e
-
-  pub span_inside : (s : List Token) (i n : ℕ) (other : Token) → i < length s → 0 < n →
-      length (span commas n questions (drop i s)) ≡ suc (length (span commas (brackets_after n (get_or s i other).kind) questions (drop (suc i) s)))
-  span_inside [] i n other low some = absurd (omega arith)
-  span_inside (o ∷ s) zero zero other low some = absurd (omega arith)
-  span_inside (o ∷ s) zero (suc n) other low some = refl
-  span_inside (o ∷ s) (suc i) n other low some = span_inside s i n other (omega arith) some
-
-pub span_over : (commas : Bool) (brackets questions : ℕ) (s : List Token) (i : ℕ) → length s ≤ i → length (span commas brackets questions (drop i s)) ≡ 0
-span_over commas brackets questions [] zero low = refl
-span_over commas brackets questions [] (suc i) low = refl
-span_over commas brackets questions (o ∷ s) zero low = absurd (omega arith)
-span_over commas brackets questions (o ∷ s) (suc i) low = span_over commas brackets questions s i (omega arith)
 
 -- ---- What reading says of a whole span
 

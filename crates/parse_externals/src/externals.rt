@@ -1,6 +1,6 @@
 //! External declarations (C11 6.9).
 
-ghost use Rattle.std.specs.Prelude.{◌≡◌, ◌<◌, ◌≤◌, ◌+◌, ◌*◌, ◌^◌, ℕ, suc, max, [], ◌∷◌, List, length, map, IfOk, IfErr};
+ghost use Rattle.std.specs.Prelude.{◌≡◌, ◌<◌, ◌≤◌, ◌+◌, ◌*◌, ◌^◌, suc, max, [], List, map, IfOk, IfErr};
 ghost use Rattle.c_grammar.specs.Terminals.{Lexeme, header_types};
 ghost use Rattle.c_grammar.specs.File.{type_names};
 ghost use Rattle.c_grammar.specs.Reading.{bounded, found};

@@ -1,6 +1,6 @@
 //! Initialisers (C11 6.7.9).
 
-ghost use Rattle.std.specs.Prelude.{◌≡◌, ◌+◌, ◌<◌, length};
+ghost use Rattle.std.specs.Prelude.{◌+◌, ◌<◌, length};
 ghost use Rattle.c_grammar.specs.Expressions.{assignment};
 ghost use Rattle.c_grammar.specs.Reading.{expression};
 ghost use Rattle.c_grammar.specs.ReadingStatements as spec;

@@ -4,6 +4,4 @@
 mod declarations;
 mod initialisers;
 
-pub use declarations::{
-    Declared, Local, NamedInit, NamedInits, init_declarators, local_declaration,
-};
+pub use declarations::{Declared, Local, NamedInits, init_declarators, local_declaration};

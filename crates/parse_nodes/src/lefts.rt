@@ -1,4 +1,4 @@
-//! Expressions so far, and their levels.
+//! Expressions so far, and parts of nodes, boxed.
 
 ghost use Rattle.std.specs.Prelude.{◌≡◌, IfOk};
 

@@ -157,7 +157,7 @@ pub fn do_test(
     condition(alloc, tokens, depth)
 }
 
-/// What stands first in the head of a `for`, with its semicolon (C11 6.8.5).
+/// A declaration, as the head of a `for`.
 #[tactic(auto, unfolding(c_grammar::specs::ReadingStatements::head_local))]
 fn head_local(
     alloc: Global,
@@ -178,6 +178,7 @@ fn head_local(
     })
 }
 
+/// An expression or none with its semicolon, as the head of a `for`.
 #[tactic(auto, unfolding(c_grammar::specs::ReadingStatements::head_expr))]
 fn head_expr(
     alloc: Global,
@@ -195,6 +196,7 @@ fn head_expr(
     })
 }
 
+/// What stands first in the head of a `for`, with its semicolon (C11 6.8.5).
 pub fn for_head(
     alloc: Global,
     tokens: &mut Tokens<'_>,

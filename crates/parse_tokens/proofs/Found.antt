@@ -1,15 +1,9 @@
 -- Looking a keyword up row by row.
-use Rattle.std.proofs.Common.{◌≡◌, ℕ, zero, suc, ◌+◌, ◌<◌, ◌≤◌, List, [], ◌∷◌, length, get_or, drop, Some, None, true, false, refl, sym, ap, ◌∙◌, add-one, arith}
+use Rattle.std.proofs.Common.{◌≡◌, ℕ, zero, suc, ◌+◌, ◌<◌, List, [], ◌∷◌, length, get_or, drop, false, refl, sym, ap, ◌∙◌, add-one, arith}
 use Rattle.std.specs.Str.{bytes_eq}
 use Rattle.c_grammar.specs.declared.terminals.Keyword.{Keyword}
 use Rattle.c_grammar.specs.Terminals.{keyword_in}
 use Rattle.parse_tokens.specs.Words.{spelling_of, rows_of}
-
-pub keyword_here : (words : List Keyword) (name : List ℕ) (i : ℕ) (other : Keyword) → i < length words → bytes_eq (spelling_of (get_or words i other)) name ≡ true →
-    keyword_in (rows_of (drop i words)) name ≡ Some (get_or words i other)
-keyword_here [] name i other low e = absurd (omega arith)
-keyword_here (w ∷ ws) name zero other low e = rw e refl
-keyword_here (w ∷ ws) name (suc i) other low e = keyword_here ws name i other (omega arith) e
 
 keyword_next : (words : List Keyword) (name : List ℕ) (i : ℕ) (other : Keyword) → i < length words → bytes_eq (spelling_of (get_or words i other)) name ≡ false →
     keyword_in (rows_of (drop i words)) name ≡ keyword_in (rows_of (drop (suc i) words)) name
@@ -20,9 +14,3 @@ keyword_next (w ∷ ws) name (suc i) other low e = keyword_next ws name i other 
 pub keyword_on : (words : List Keyword) (name : List ℕ) (i : ℕ) (other : Keyword) → i < length words → bytes_eq (spelling_of (get_or words i other)) name ≡ false →
     keyword_in (rows_of (drop i words)) name ≡ keyword_in (rows_of (drop (i + 1) words)) name
 keyword_on words name i other low e = keyword_next words name i other low e ∙ ap (λ j. keyword_in (rows_of (drop j words)) name) (sym (add-one i))
-
-pub keyword_none : (words : List Keyword) (name : List ℕ) (i : ℕ) → length words ≤ i → keyword_in (rows_of (drop i words)) name ≡ None
-keyword_none [] name zero low = refl
-keyword_none [] name (suc i) low = refl
-keyword_none (w ∷ ws) name zero low = absurd (omega arith)
-keyword_none (w ∷ ws) name (suc i) low = keyword_none ws name i (omega arith)

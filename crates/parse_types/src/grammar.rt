@@ -1,4 +1,5 @@
-//! The rules of expressions, over a function that reads expressions one node less high.
+//! What type names, bounds and abstract declarators have in common: a function that reads expressions, and how high these
+//! may be.
 
 ghost use Rattle.std.specs.Prelude.{◌≤◌, ◌<◌, IfOk};
 ghost use Rattle.c_grammar.specs.Reading as spec;
@@ -9,7 +10,8 @@ use c_tree::Expr;
 use parse_tokens::{ParseFault, Tall, Tokens};
 use std::alloc::Global;
 
-/// The rules of expressions whose parts are at most `depth` high, over a function that reads those parts.
+/// The rules of type names, bounds and abstract declarators whose expressions are at most `depth` high, over a function that
+/// reads these.
 #[derive(Clone, Copy)]
 pub struct Grammar<F> {
     pub alloc: Global,
