@@ -1,4 +1,4 @@
-pub mod Loops
+pub mod Giving
 pub mod InitDeclarators
 mod Lists
 mod Attributes

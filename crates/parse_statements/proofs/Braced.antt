@@ -1,5 +1,7 @@
 -- The steps of the loop over what stands between braces.
-use Rattle.std.proofs.Common.{◌≡◌, ℕ, zero, suc, max, List, [], ◌∷◌, ◌++◌, Option, Some, None, Bool, true, false, length, refl, ap, ◌∙◌}
+use Rattle.std.proofs.Common.{◌≡◌, ◌≢◌, ℕ, zero, suc, max, List, [], ◌∷◌, ◌++◌, Option, Some, None, Bool, true, false, length, refl, sym, ap, ◌∙◌}
+use Rattle.std.specs.Prelude.{Result, Ok, Err}
+use Rattle.std.specs.Result.{IsErrAnd}
 use Rattle.c_tokens.specs.declared.puncts.Punct.TheVariants as p
 use Rattle.c_tree.specs.declared.statements.Stmt.{Stmt}
 use Rattle.c_grammar.specs.declared.terminals.Keyword.TheVariants as w
@@ -12,7 +14,17 @@ use Rattle.parse_statements.specs.declared.statements.Beside.{Beside}
 use Rattle.parse_statements.specs.declared.statements.Beside.TheVariants as beside
 use Rattle.parse_statements.specs.Lists.{item_of, stmts_of, begins_cases}
 use Rattle.parse_inits.specs.Readers.{locals}
+use Rattle.parse_tokens.specs.Gives.{Gives}
+use Rattle.parse_tokens.specs.declared.faults.ParseFault.{ParseFault}
+use Rattle.parse_tokens.specs.declared.faults.ParseFault.TheVariants as fault
+use Rattle.parse_tokens.specs.declared.faults.Tall.{Tall}
 use Rattle.parse_tokens.proofs.Turns.{prepended-prepended, prepended_last}
+
+-- what `?` returns
+pub err_gives : {A : Type 0} (read : Option (Read A)) (r : Result (Tall A) ParseFault) (new : List Lexeme) (e : ParseFault) →
+    IsErrAnd r (λ f. e ≡ f) → (e ≢ fault.NoMemory → read ≡ None) → Gives read r new
+err_gives read (Ok x) new e same none = absurd same
+err_gives read (Err f) new e same none = λ other. none (λ is. other (sym same ∙ is))
 
 -- a statement, and then those that a reader finds
 abbrev with_next : (List Lexeme → Option (Read (List Stmt))) → Option (Read Stmt) → Option (Read (List Stmt))

@@ -1,5 +1,5 @@
 use Rattle.std.proofs.Common.{ap, map, ◌∙◌, Bor, ℕ, List}
-use Rattle.parse_inits.proofs.Loops.{take_all}
+use Rattle.std.proofs.lemmas.List.{take_all}
 use Rattle.parse_externals.proofs.externals.copies.Goals as goal
 
 pub returns : goal.returns

@@ -4,7 +4,7 @@ use Rattle.parse_tokens.specs.declared.faults.ParseFault.TheVariants as fault
 use Rattle.parse_parts.specs.Counts.{specs_of}
 use Rattle.parse_externals.specs.Externals.{declared_from}
 use Rattle.parse_declarators.specs.Named.{named_of}
-use Rattle.parse_inits.proofs.Loops.{err_gives_as}
+use Rattle.parse_inits.proofs.Giving.{err_gives_as}
 use Rattle.parse_externals.proofs.Behind.{declared_read, declared_fails}
 use Rattle.parse_externals.proofs.externals.declared.Goals as goal
 

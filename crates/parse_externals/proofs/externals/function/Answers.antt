@@ -5,7 +5,7 @@ use Rattle.c_grammar.specs.Reading.{found}
 use Rattle.c_grammar.specs.ReadingFile.{body}
 use Rattle.parse_parts.specs.Counts.{specs_of}
 use Rattle.parse_declarators.specs.Named.{named_of}
-use Rattle.parse_inits.proofs.Loops.{err_gives_as}
+use Rattle.parse_inits.proofs.Giving.{err_gives_as}
 use Rattle.parse_externals.proofs.Behind.{body_read, body_fails}
 use Rattle.parse_externals.proofs.externals.function.Goals as goal
 

@@ -3,7 +3,7 @@ use Rattle.std.specs.Prelude.{if◌then◌else◌}
 use Rattle.c_grammar.specs.Terminals.{Lexeme}
 use Rattle.c_grammar.specs.Reading.{bounded, found}
 use Rattle.parse_externals.specs.Externals.{external_of}
-use Rattle.parse_inits.proofs.Loops.{kept_gives_as}
+use Rattle.parse_inits.proofs.Giving.{kept_gives_as}
 use Rattle.parse_externals.proofs.externals.within.Goals as goal
 
 bounded_by : {A : Type 0} (limit other height : ℕ) (x : A) (t : List Lexeme) → other ≡ limit →

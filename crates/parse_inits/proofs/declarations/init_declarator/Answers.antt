@@ -5,7 +5,7 @@ use Rattle.c_grammar.specs.ReadingDeclarators.{declarator}
 use Rattle.c_grammar.specs.ReadingStatements.{initialiser}
 use Rattle.parse_declarators.specs.Named.{named_of}
 use Rattle.parse_inits.specs.Readers.{init_declarator_from}
-use Rattle.parse_inits.proofs.Loops.{err_gives_as}
+use Rattle.parse_inits.proofs.Giving.{err_gives_as}
 use Rattle.parse_inits.proofs.InitDeclarators.{from_no_lists, from_no_init, from_parts}
 use Rattle.parse_inits.proofs.declarations.init_declarator.Goals as goal
 

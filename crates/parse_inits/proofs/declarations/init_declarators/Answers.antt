@@ -9,7 +9,7 @@ use Rattle.parse_inits.specs.Declarations.{declared_of}
 use Rattle.parse_inits.specs.Readers.{init_declarators_from}
 use Rattle.parse_tokens.proofs.Turns.{one_more, no_more}
 use Rattle.parse_tokens.proofs.Turns.{highest}
-use Rattle.parse_inits.proofs.Loops.{err_gives_as}
+use Rattle.parse_inits.proofs.Giving.{err_gives_as}
 use Rattle.parse_inits.proofs.InitDeclarators.{gathered, from_fail, from_no_end, from_end, from_no_next, from_go, from_none}
 use Rattle.parse_inits.proofs.declarations.init_declarators.Goals as goal
 

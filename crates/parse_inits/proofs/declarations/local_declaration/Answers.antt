@@ -4,7 +4,7 @@ use Rattle.parse_tokens.specs.declared.faults.ParseFault.TheVariants as fault
 use Rattle.c_grammar.specs.Statements.{are_objects}
 use Rattle.parse_inits.specs.Declarations.{declared_of, local_of}
 use Rattle.parse_inits.specs.Readers.{locals}
-use Rattle.parse_inits.proofs.Loops.{err_gives_as, kept_gives_as}
+use Rattle.parse_inits.proofs.Giving.{err_gives_as, kept_gives_as}
 use Rattle.parse_inits.proofs.Locals.{local_no_first, local_fail, local_read}
 use Rattle.parse_inits.proofs.declarations.local_declaration.Goals as goal
 

@@ -4,8 +4,7 @@ use Rattle.c_grammar.specs.Reading.{prepended}
 use Rattle.parse_tokens.specs.declared.faults.ParseFault.TheVariants as fault
 use Rattle.parse_statements.specs.Lists.{stmts_of}
 use Rattle.parse_tokens.proofs.Turns.{one_more, no_more}
-use Rattle.parse_inits.proofs.Loops.{err_gives}
-use Rattle.parse_statements.proofs.Braced.{braced_end, braced_fail, braced_go, braced_over}
+use Rattle.parse_statements.proofs.Braced.{err_gives, braced_end, braced_fail, braced_go, braced_over}
 use Rattle.parse_statements.proofs.statements.Statements.braced.Goals as goal
 
 pub returns-then-take_body_end-clause-reads : goal.returns-then-take_body_end-clause-reads
