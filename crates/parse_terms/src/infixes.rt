@@ -62,7 +62,7 @@ impl<F: Fn(Global, &mut Tokens<'_>, usize, u8) -> Result<Tall<Expr>, ParseFault>
         let mut trees = Items::new(self.grammar.alloc);
         let mut height = 0;
         for _turn in 0..turns {
-            let one = self.grammar.sub(tokens, ASSIGNMENT)?;
+            let one = self.grammar.expression(tokens, ASSIGNMENT)?;
             trees.push(one.tree)?;
             height = height.max(one.height);
             if !tokens.take_comma() {
@@ -109,7 +109,7 @@ impl<F: Fn(Global, &mut Tokens<'_>, usize, u8) -> Result<Tall<Expr>, ParseFault>
         ensures reads { Gives (bracketed self.now.grammar.depth (spec.expression self.now.grammar.depth) tokens.old) result tokens.new }
         ensures low { IfOk result (λ x. x.height ≤ self.now.grammar.depth) }
     {
-        let index = self.grammar.sub(tokens, EXPRESSION)?;
+        let index = self.grammar.expression(tokens, EXPRESSION)?;
         before_right_bracket(tokens, index)
     }
 
@@ -119,7 +119,7 @@ impl<F: Fn(Global, &mut Tokens<'_>, usize, u8) -> Result<Tall<Expr>, ParseFault>
         ensures reads { Gives (colon_ended self.now.grammar.depth (spec.expression self.now.grammar.depth) tokens.old) result tokens.new }
         ensures low { IfOk result (λ x. x.height ≤ self.now.grammar.depth) }
     {
-        let yes = self.grammar.sub(tokens, EXPRESSION)?;
+        let yes = self.grammar.expression(tokens, EXPRESSION)?;
         before_colon(tokens, yes)
     }
 
@@ -130,7 +130,7 @@ impl<F: Fn(Global, &mut Tokens<'_>, usize, u8) -> Result<Tall<Expr>, ParseFault>
         ensures low { IfOk result FitsTail }
     {
         let yes = self.colon_ended(tokens)?;
-        let no = self.grammar.sub(tokens, CONDITIONAL);
+        let no = self.grammar.expression(tokens, CONDITIONAL);
         let (yes, no) = both(yes, no)?;
         Ok(Tail::Choice { yes, no })
     }
@@ -148,8 +148,12 @@ impl<F: Fn(Global, &mut Tokens<'_>, usize, u8) -> Result<Tall<Expr>, ParseFault>
             Role::Member { arrow } => member_tail(self.grammar.alloc, tokens, arrow),
             Role::Step(op) => Ok(Tail::Step(op)),
             Role::Choice => self.choice_tail(tokens),
-            Role::Assign(op) => Ok(Tail::Assign(op, self.grammar.sub(tokens, ASSIGNMENT)?)),
-            Role::Join(op, level) => Ok(Tail::Join(op, level, self.grammar.sub(tokens, level)?)),
+            Role::Assign(op) => Ok(Tail::Assign(op, self.grammar.expression(tokens, ASSIGNMENT)?)),
+            Role::Join(op, level) => Ok(Tail::Join(
+                op,
+                level,
+                self.grammar.expression(tokens, level)?,
+            )),
             Role::List => {
                 let turns = tokens.left();
                 Ok(Tail::List(self.exprs(tokens, turns)?))

@@ -131,7 +131,7 @@ impl<F: Fn(Global, &mut Tokens<'_>, usize, u8) -> Result<Tall<Expr>, ParseFault>
         ensures low { IfOk result (λ x. x.height ≤ self.now.grammar.depth + 1) }
     {
         let to = self.closed_type(tokens)?;
-        let of = self.grammar.sub(tokens, CAST);
+        let of = self.grammar.expression(tokens, CAST);
         let (to, of) = both(to, of)?;
         Ok(cast(self.grammar.alloc, to, of, place)?)
     }
@@ -153,7 +153,7 @@ impl<F: Fn(Global, &mut Tokens<'_>, usize, u8) -> Result<Tall<Expr>, ParseFault>
         ensures reads { GivesLeft (spec.sized_expr self.now.grammar.depth (spec.expression self.now.grammar.depth) place tokens.old) result tokens.new }
         ensures low { IfOk result (λ x. x.height ≤ self.now.grammar.depth + 1) }
     {
-        let of = self.grammar.sub(tokens, UNARY)?;
+        let of = self.grammar.expression(tokens, UNARY)?;
         let height = of.height + 1;
         let of = Boxed::new(self.grammar.alloc, of.tree)?;
         Ok(Left::new(UNARY, ExprKind::SizeofExpr(of), place, height))
@@ -188,7 +188,7 @@ impl<F: Fn(Global, &mut Tokens<'_>, usize, u8) -> Result<Tall<Expr>, ParseFault>
         ensures low { IfOk result (λ x. x.height ≤ self.now.grammar.depth) }
     {
         tokens.expect_left_paren()?;
-        let pointer = self.grammar.sub(tokens, ASSIGNMENT)?;
+        let pointer = self.grammar.expression(tokens, ASSIGNMENT)?;
         before_comma(tokens, pointer)
     }
 
@@ -198,7 +198,7 @@ impl<F: Fn(Global, &mut Tokens<'_>, usize, u8) -> Result<Tall<Expr>, ParseFault>
         ensures reads { Gives (paren_ended self.now.grammar.depth (spec.expression self.now.grammar.depth) tokens.old) result tokens.new }
         ensures low { IfOk result (λ x. x.height ≤ self.now.grammar.depth) }
     {
-        let mode = self.grammar.sub(tokens, CONDITIONAL)?;
+        let mode = self.grammar.expression(tokens, CONDITIONAL)?;
         before_right_paren(tokens, mode)
     }
 
@@ -228,7 +228,7 @@ impl<F: Fn(Global, &mut Tokens<'_>, usize, u8) -> Result<Tall<Expr>, ParseFault>
     {
         match prefix_operator(punct) {
             Some((op, level)) => {
-                let of = self.grammar.sub(tokens, level)?;
+                let of = self.grammar.expression(tokens, level)?;
                 let height = of.height + 1;
                 let of = Boxed::new(self.grammar.alloc, of.tree)?;
                 Ok(Left::new(UNARY, ExprKind::Prefix { op, of }, place, height))

@@ -71,7 +71,7 @@ impl<F: Fn(Global, &mut Tokens<'_>, usize, u8) -> Result<Tall<Expr>, ParseFault>
         ensures reads { Gives (spec.bound_some (spec.expression self.now.depth) tokens.old) result tokens.new }
         ensures low { IfOk result (λ x. x.height ≤ self.now.depth) }
     {
-        let bound = self.sub(tokens, CONDITIONAL)?;
+        let bound = self.expression(tokens, CONDITIONAL)?;
         let bound = before_right_bracket(tokens, bound)?;
         Ok(Tall {
             tree: Some(Boxed::new(self.alloc, bound.tree)?),

@@ -21,7 +21,7 @@ pub struct Grammar<F> {
 
 impl<F: Fn(Global, &mut Tokens<'_>, usize, u8) -> Result<Tall<Expr>, ParseFault>> Grammar<F> {
     /// An expression of a level.
-    pub fn sub(&self, tokens: &mut Tokens<'_>, level: u8) -> Result<Tall<Expr>, ParseFault>
+    pub fn expression(&self, tokens: &mut Tokens<'_>, level: u8) -> Result<Tall<Expr>, ParseFault>
         requires { Nests self.now.depth (F.pre self.now.expr) (F.post self.now.expr) }
         ensures reads { Gives (spec.expression self.now.depth level tokens.old) result tokens.new }
         ensures low { IfOk result (λ x. x.height ≤ self.now.depth) }

@@ -21,7 +21,7 @@ returns-then-not-take_comma-clause-reads g c =
     let other = c.if-not-take_comma.ensures.other refl in
     let higher = c.max-height.ensures ∙ highest c.loop-turn.height c.in_ok-one.one.height in
     rw (c.in_ok-push.ensures.ok, higher, other.1)
-    (e ∙ exprs_end n (spec.expression n) c.loop-turn.trees c.loop-turn.height _ c.loop-turn.tokens c.sub.new.tokens _ _ c.in_ok-one.ensures.reads other.0)
+    (e ∙ exprs_end n (spec.expression n) c.loop-turn.trees c.loop-turn.height _ c.loop-turn.tokens c.expression.new.tokens _ _ c.in_ok-one.ensures.reads other.0)
 
 pub loop-turn-preserved : goal.loop-turn-preserved
 loop-turn-preserved g c =
@@ -33,7 +33,7 @@ loop-turn-preserved g c =
     let low = c.in_ok-one.ensures.low in (
       omega (arith, higher, low, c.loop-turn.invariant.0),
       rw (c.in_ok-push.ensures.ok, higher)
-          (e ∙ exprs_go n (spec.expression n) c.loop-turn.trees c.loop-turn.height _ c.loop-turn.tokens c.sub.new.tokens c.take_comma.new.self _ _ c.in_ok-one.ensures.reads comma),
+          (e ∙ exprs_go n (spec.expression n) c.loop-turn.trees c.loop-turn.height _ c.loop-turn.tokens c.expression.new.tokens c.take_comma.new.self _ _ c.in_ok-one.ensures.reads comma),
     )
 
 pub returns-clause-reads : goal.returns-clause-reads
