@@ -102,7 +102,7 @@ fn assert_missing<R: Files>(
 }
 
 /// The name of a file in no folder.
-const NOWHERE: &str = "/fortc-test.missing/a";
+const NOWHERE: &str = "fortc-test.missing/a";
 
 /// Keeps files under the name and removes them, and then asks for it, for a file in no folder and for the folder.
 fn assert_files<R: Abort + Files, F: Files>(
