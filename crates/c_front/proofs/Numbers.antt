@@ -10,7 +10,7 @@ use Rattle.c_tokens.proofs.NumberSpelling.{spells_number}
 use Rattle.c_lexer.specs.Lexed.{lexed}
 use Rattle.c_lexer.specs.Respelled.{first_token}
 use Rattle.c_lexer.proofs.LawLemmas.{spelling_read}
-use Rattle.c_expansion.specs.Definitions.{literal}
+use Rattle.macro_meaning.specs.Definitions.{literal}
 
 spelled_so : (n : ℕ) → n < 2 ^ 64 → spelled false (decimal n) ≡ Some (Token (literal n))
 spelled_so zero small =

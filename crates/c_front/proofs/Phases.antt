@@ -8,16 +8,16 @@ use Rattle.c_tokens.specs.declared.Token.{Token}
 use Rattle.c_tree.specs.declared.externals.FileTree.{FileTree}
 use Rattle.c_lexer.specs.Lexed.{lexed, GivesErr}
 use Rattle.fc_base.specs.Answers.{Fails}
-use Rattle.c_expansion.specs.Expansion.{Expanded, IsExpanded}
-use Rattle.c_expansion.specs.Moves.{start}
-use Rattle.c_expansion.proofs.ExpansionLaws as expansion
-use Rattle.c_grammar.specs.File.{Derives}
-use Rattle.c_grammar.proofs.Uniqueness.{derives_once, derives_some}
-use Rattle.c_forms.specs.declared.Form.{Form}
-use Rattle.c_forms.specs.Forms.{IsForm}
+use Rattle.macro_meaning.specs.Expansion.{Expanded, IsExpanded}
+use Rattle.macro_meaning.specs.Moves.{start}
+use Rattle.macro_meaning.proofs.ExpansionLaws as expansion
+use Rattle.parse_meaning.specs.File.{Derives}
+use Rattle.parse_meaning.proofs.Uniqueness.{derives_once, derives_some}
+use Rattle.fort_forms.specs.declared.Form.{Form}
+use Rattle.fort_forms.specs.Forms.{IsForm}
 use Rattle.c_front.specs.Front.{Front, unlexed, unexpanded, underived, no_form, some_form, not_this_form}
-use Rattle.c_forms.specs.Reading.{form_of}
-use Rattle.c_forms.proofs.Reading.{form_read, form_found, none_read}
+use Rattle.fort_forms.specs.Reading.{form_of}
+use Rattle.fort_forms.proofs.Reading.{form_read, form_found, none_read}
 
 -- the outcome of tokens that were parsed
 abbrev pub by_form : Option Form → Result Form Refusal

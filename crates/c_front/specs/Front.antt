@@ -6,10 +6,10 @@ use Rattle.fc_base.specs.declared.Rule.TheVariants.{NotThisForm}
 use Rattle.c_tokens.specs.declared.Token.{Token}
 use Rattle.c_tree.specs.declared.externals.FileTree.{FileTree}
 use Rattle.c_lexer.specs.Lexed.{lexed}
-use Rattle.c_expansion.specs.Expansion.{IsExpanded}
-use Rattle.c_grammar.specs.File.{Derives}
-use Rattle.c_forms.specs.declared.Form.{Form}
-use Rattle.c_forms.specs.Forms.{IsForm, IsListOf, HaveNoForm}
+use Rattle.macro_meaning.specs.Expansion.{IsExpanded}
+use Rattle.parse_meaning.specs.File.{Derives}
+use Rattle.fort_forms.specs.declared.Form.{Form}
+use Rattle.fort_forms.specs.Forms.{IsForm, IsListOf, HaveNoForm}
 
 -- the refusal of a source that isn't the form
 abbrev pub not_this_form : Refusal

@@ -2,13 +2,13 @@
 
 ghost use Rattle.std.specs.Prelude.{◌<◌, length, IfOk};
 ghost use Rattle.fc_base.specs.Answers.{Answers};
-ghost use Rattle.c_forms.specs.Forms.{IsForm};
+ghost use Rattle.fort_forms.specs.Forms.{IsForm};
 ghost use Rattle.c_front.specs.Front.{Front};
 
-use c_forms::{Form, read_form};
 use c_lexer::tokens;
 use c_macros::expand;
 use fc_base::{Fault, Level, Place, Refusal, Rule};
+use fort_forms::{Form, read_form};
 use parse_decl::parse;
 use std::alloc::Global;
 

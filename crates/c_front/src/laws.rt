@@ -5,8 +5,8 @@ ghost use Rattle.fc_base.specs.declared.Level.{Level};
 ghost use Rattle.fc_base.specs.declared.Refusal.{Refusal};
 ghost use Rattle.c_lexer.specs.Lexed.{lexed};
 ghost use Rattle.c_lexer.specs.Respelled.{first_token};
-ghost use Rattle.c_forms.specs.declared.Form.{Form};
-ghost use Rattle.c_expansion.specs.Definitions.{literal};
+ghost use Rattle.fort_forms.specs.declared.Form.{Form};
+ghost use Rattle.macro_meaning.specs.Definitions.{literal};
 ghost use Rattle.c_front.specs.Front.{Front};
 
 /// Every source has an outcome at each level, and one only.

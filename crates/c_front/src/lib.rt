@@ -4,6 +4,6 @@
 mod front;
 mod laws;
 
-pub use c_forms::Form;
+pub use fort_forms::Form;
 pub use front::read_source;
 pub use laws::{numbers_are_lexed, one_front};

@@ -5,15 +5,15 @@ use Rattle.fc_base.specs.Answers.{Answers, Fails}
 use Rattle.fc_base.specs.declared.Fault.{Fault}
 use Rattle.fc_base.specs.declared.Fault.TheVariants.{Refused, NoMemory}
 use Rattle.c_tokens.specs.declared.Token.{Token}
-use Rattle.c_replacement.specs.Replacing.{AddsAs}
-use Rattle.c_expansion.specs.Macros.{token, items}
-use Rattle.c_expansion.specs.Lines.{front, rest_of, nothing}
-use Rattle.c_expansion.specs.Moves.{State, Next, goes, Move, moves, expands, move, takes, on_front, on_directive, at_end}
-use Rattle.c_expansion.specs.Expansion.{Expanded, behind, Moved, ends, moved, text as of_text, refused_text as of_refused_text, condition, refused_condition as of_refused_condition, Follows, stops, goes_on}
-use Rattle.c_lines.specs.declared.Part.TheVariants.{Text, Line}
-use Rattle.c_lines.specs.Lines.{PartIs}
+use Rattle.macro_replacement.specs.Replacing.{AddsAs}
+use Rattle.macro_meaning.specs.Macros.{token, items}
+use Rattle.macro_meaning.specs.Lines.{front, rest_of, nothing}
+use Rattle.macro_meaning.specs.Moves.{State, Next, goes, Move, moves, expands, move, takes, on_front, on_directive, at_end}
+use Rattle.macro_meaning.specs.Expansion.{Expanded, behind, Moved, ends, moved, text as of_text, refused_text as of_refused_text, condition, refused_condition as of_refused_condition, Follows, stops, goes_on}
+use Rattle.macro_lines.specs.declared.GroupPart.TheVariants.{Text, Line}
+use Rattle.macro_lines.specs.Lines.{PartIs}
 use Rattle.c_macros.specs.States.{EndsAs}
-use Rattle.c_lines.specs.Comes.{Comes, at_once, by_text, refused_text, by_condition, refused_condition}
+use Rattle.macro_lines.specs.Comes.{Comes, at_once, by_text, refused_text, by_condition, refused_condition}
 use Rattle.c_macros.specs.Doing.{DoesAs}
 
 comes_to : {st : State} {count c : ℕ} {ts : List Token} {m : Move} {n : Next} {out : Expanded} → move st ts ≡ m → Comes st.macros count m n c → Follows n c (rest_of (front ts)) out → Moved st count ts out

@@ -1,4 +1,4 @@
 pub mod Starting
 pub mod Included
 pub mod Carried
-pub mod Giving
+pub mod DirectiveAnswers

@@ -5,11 +5,11 @@ use Rattle.std.specs.Cmp.Lexicographic.{pointwise}
 use Rattle.std.specs.Map.{lookup}
 use Rattle.indexmap.specs.IndexMap.{IndexMap}
 use Rattle.fc_base.specs.declared.Level.{Level}
-use Rattle.c_expansion.specs.Macros.{Name, Meaning, Macros, with_macro, no_macros}
-use Rattle.c_expansion.specs.Definitions.{fortify_source}
-use Rattle.c_expansion.specs.Moves.{State, start}
-use Rattle.c_items.specs.declared.Macro.{Macro}
-use Rattle.c_items.specs.Views.{table, meaning_view}
+use Rattle.macro_meaning.specs.Macros.{Name, Meaning, Macros, with_macro, no_macros}
+use Rattle.macro_meaning.specs.Definitions.{fortify_source}
+use Rattle.macro_meaning.specs.Moves.{State, start}
+use Rattle.macro_items.specs.declared.Macro.{Macro}
+use Rattle.macro_items.specs.Views.{table, meaning_view}
 
 -- an empty map has no macros
 pub table_empty : {S : Type 0} (m : IndexMap (Bor (List ℕ)) Macro S) → m.entries ≡ [] → table m ≡ no_macros

@@ -3,9 +3,9 @@ use Rattle.std.specs.Prelude.{◌≡◌, ℕ, List, ◌++◌, Result, Ok, Err}
 use Rattle.fc_base.specs.declared.Fault.{Fault}
 use Rattle.fc_base.specs.declared.Fault.TheVariants.{Refused, NoMemory}
 use Rattle.c_tokens.specs.declared.Token.{Token}
-use Rattle.c_expansion.specs.Macros.{Macros}
-use Rattle.c_expansion.specs.Moves.{State, refuses, goes, Move}
-use Rattle.c_lines.specs.Comes.{Comes}
+use Rattle.macro_meaning.specs.Macros.{Macros}
+use Rattle.macro_meaning.specs.Moves.{State, refuses, goes, Move}
+use Rattle.macro_lines.specs.Comes.{Comes}
 
 -- the tokens that a function gave stand behind those from before, and the move comes to the state afterwards
 abbrev pub DoesAs : Result ℕ Fault → Macros → ℕ → Move → State → List Token → List Token → Type 0

@@ -3,9 +3,9 @@ use Rattle.std.specs.Prelude.{◌≡◌, List, reverse, Result, Ok, Err}
 use Rattle.fc_base.specs.declared.Fault.{Fault}
 use Rattle.fc_base.specs.declared.Fault.TheVariants.{Refused, NoMemory}
 use Rattle.c_tokens.specs.declared.Token.{Token}
-use Rattle.c_expansion.specs.Moves.{State, Next, refuses, goes, Move, over, moves}
-use Rattle.c_items.specs.Views.{table}
-use Rattle.c_definitions.specs.declared.State.{State as Held}
+use Rattle.macro_meaning.specs.Moves.{State, Next, refuses, goes, Move, over, moves}
+use Rattle.macro_items.specs.Views.{table}
+use Rattle.macro_definitions.specs.declared.State.{State as Held}
 
 abbrev pub state : Held → State
 state st = record { macros = table st.macros; groups = reverse st.groups.items; headers = st.headers.items }

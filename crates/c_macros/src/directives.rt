@@ -1,28 +1,28 @@
 //! What directives do (C11 6.10.1 to 6.10.3). Each gives the token of an inclusion, or none.
 
 ghost use Rattle.std.specs.Prelude.{◌≡◌, IfOk, option_map, option_to_list, reverse, if◌then◌else◌, Some, None, true, false, ◌∷◌};
-ghost use Rattle.c_expansion.specs.Macros.{Macros};
-ghost use Rattle.c_expansion.specs.Definitions.{definition, meaning, header_macros};
-ghost use Rattle.c_expansion.specs.Moves as moves;
-ghost use Rattle.c_expansion.specs.Moves.{with_definition, with_definitions, only_name, only_header, header_token, group};
-ghost use Rattle.c_expansion.specs.Sameness as sameness;
+ghost use Rattle.macro_meaning.specs.Macros.{Macros};
+ghost use Rattle.macro_meaning.specs.Definitions.{definition, meaning, header_macros};
+ghost use Rattle.macro_meaning.specs.Moves as moves;
+ghost use Rattle.macro_meaning.specs.Moves.{with_definition, with_definitions, only_name, only_header, header_token, group};
+ghost use Rattle.macro_meaning.specs.Sameness as sameness;
 ghost use Rattle.std.specs.List.{list_any};
-ghost use Rattle.c_items.specs.Views.{table, meaning_view};
+ghost use Rattle.macro_items.specs.Views.{table, meaning_view};
 ghost use Rattle.c_macros.specs.States.{state, GoesAs};
-ghost use Rattle.c_lines.specs.Lines.{entry_views};
+ghost use Rattle.macro_lines.specs.Lines.{entry_views};
 ghost use Rattle.c_macros.specs.Doing.{DoesAs};
 
-use c_definitions::{
+use c_tokens::{HeaderId, Token, TokenKind};
+use fc_base::{Fault, Place, Rule};
+use macro_definitions::{
     State, definition_of, meaning, operator, same_header, same_meaning, set_macro, takes,
     unset_macro,
 };
-use c_expansion::{Group, Word};
-use c_items::{Macro, Macros, find};
-use c_lines::{
+use macro_items::{Macro, Macros, find};
+use macro_lines::{
     Builtins, Entry, after, header_macros, header_named, holds, name_of, refuse, word_of,
 };
-use c_tokens::{HeaderId, Token, TokenKind};
-use fc_base::{Fault, Place, Rule};
+use macro_meaning::{Group, Word};
 use std::alloc::{AllocError, Global};
 
 /// Adds a macro, and tells whether its name had no other meaning.

@@ -3,26 +3,28 @@
 ghost use Rattle.std.specs.Prelude.{◌≡◌, length, [], IfOk, reverse};
 ghost use Rattle.std.specs.List.{All};
 ghost use Rattle.fc_base.specs.Answers.{Answers};
-ghost use Rattle.c_expansion.specs.Macros.{Macros, items};
-ghost use Rattle.c_expansion.specs.Expansion.{Expanded, IsExpanded, Moved};
+ghost use Rattle.macro_meaning.specs.Macros.{Macros, items};
+ghost use Rattle.macro_meaning.specs.Expansion.{Expanded, IsExpanded, Moved};
 ghost use Rattle.c_tokens.specs.Pieces.{IsLexedKind};
-ghost use Rattle.c_expansion.specs.Moves as moves;
-ghost use Rattle.c_items.specs.Views.{table, views};
+ghost use Rattle.macro_meaning.specs.Moves as moves;
+ghost use Rattle.macro_items.specs.Views.{table, views};
 ghost use Rattle.c_macros.specs.States.{state, EndsAs};
-ghost use Rattle.c_lines.specs.Lines.{PartIs};
-ghost use Rattle.c_lines.specs.declared.Part.TheVariants as part;
-ghost use Rattle.c_replacement.specs.Replacing.{AddsAs};
+ghost use Rattle.macro_lines.specs.Lines.{PartIs};
+ghost use Rattle.macro_lines.specs.declared.GroupPart.TheVariants as part;
+ghost use Rattle.macro_replacement.specs.Replacing.{AddsAs};
 ghost use Rattle.c_macros.specs.Doing.{DoesAs};
 
 use crate::directives::directive;
-use c_definitions::{State, set_macro, takes};
-use c_expansion::Group;
-use c_items::{Item, Macros};
-use c_lines::{Builtins, Part, after, first, fortify_source, item, make_builtins, part_of, refuse};
-use c_replacement::append_replaced;
 use c_tokens::Token;
 use fc_base::{Fault, Level, Rule};
 use indexmap::IndexMap;
+use macro_definitions::{State, set_macro, takes};
+use macro_items::{Item, Macros};
+use macro_lines::{
+    Builtins, GroupPart, after, first, fortify_source, item, make_builtins, part_of, refuse,
+};
+use macro_meaning::Group;
+use macro_replacement::append_replaced;
 use std::alloc::{AllocError, Global};
 
 fn items<'a>(alloc: Global, text: &'a [Token]) -> Result<Vec<Item<'a>>, AllocError>
@@ -127,12 +129,12 @@ fn take_parts<'a>(
     'parts: loop {
         let rest = after(source, at);
         match part_of(rest) {
-            Part::Nothing => return finish(&st.groups),
-            Part::Text(n) => {
+            GroupPart::Nothing => return finish(&st.groups),
+            GroupPart::Text(n) => {
                 count = text_part(alloc, st, rest, n, done, count)?;
                 at += n;
             }
-            Part::Line(n) => {
+            GroupPart::Line(n) => {
                 count = line_part(alloc, tokens, st, rest, n, done, count)?;
                 at += n + 1;
             }

@@ -14,8 +14,8 @@ use Rattle.byte_machine.specs.Images.{IsImage, IsFunction, function_at, end_of, 
 use Rattle.byte_machine.specs.State.{Core, State, Program, whole_heap, stack_start, stack_frames, memory_size, are_valid, ending, with_core, overflowing, put, performed, next, after, standing_of}
 use Rattle.byte_machine.specs.Opening.{begun, first_core, first_end, first_memory, program_of, rounded}
 use Rattle.byte_machine.proofs.Steps.{next_is}
-use Rattle.c_forms.specs.declared.Form.{Form}
-use Rattle.c_forms.specs.Forms.{IsForm}
+use Rattle.fort_forms.specs.declared.Form.{Form}
+use Rattle.fort_forms.specs.Forms.{IsForm}
 use Rattle.fort_driver.specs.Forms.{form_runs}
 use Rattle.fort_driver.specs.Compiled.{form_code, form_function, form_image}
 use Rattle.fort_driver.specs.Fort.{Agrees}

@@ -8,8 +8,8 @@ use Rattle.byte_machine.specs.Opening.{program_of, first_core}
 use Rattle.byte_machine.specs.Machines.{Loaded}
 use Rattle.fc_base.specs.declared.levels.Level.TheVariants.{Three}
 use Rattle.fc_base.specs.declared.refusals.Refusal.{Refusal}
-use Rattle.c_forms.specs.declared.Form.{Form}
-use Rattle.c_forms.specs.Forms.{IsForm}
+use Rattle.fort_forms.specs.declared.Form.{Form}
+use Rattle.fort_forms.specs.Forms.{IsForm}
 use Rattle.c_front.specs.Front.{Front}
 use Rattle.c_front.proofs.Phases.{form_is, one}
 use Rattle.fort_words.specs.declared.Outcome.{Outcome}

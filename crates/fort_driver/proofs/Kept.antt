@@ -3,11 +3,11 @@ use Rattle.std.proofs.Common.{◌≡◌, ℕ, ◌<◌, ◌≤◌, List, length, 
 use Rattle.std.proofs.lemmas.List.{length-replicate}
 use Rattle.fc_base.specs.Outside.{Files, IfTold, Puts}
 use Rattle.fc_base.specs.declared.levels.Level.TheVariants.{Three}
-use Rattle.c_forms.specs.declared.Form.{Form}
+use Rattle.fort_forms.specs.declared.Form.{Form}
 use Rattle.c_front.specs.Front.{Front}
 use Rattle.c_front.proofs.Phases.{form_is}
 use Rattle.fort_driver.specs.Compiled.{form_image}
-use Rattle.image_bytes.specs.Spelling.{image_bytes}
+use Rattle.bm_image.specs.Spelling.{bm_image}
 use Rattle.fort_driver.specs.Fort.{Holds, KeepsImage, longest_source}
 use Rattle.fort_driver.proofs.Agreement.{image_ok, agrees}
 
@@ -28,7 +28,7 @@ long_source (Some f) name long = go (f name) refl long where
 -- the form's image was kept
 abbrev pub kept_image : (file image_name : List ℕ) (files fetched files' : Option Files) (source read bytes : List ℕ) (form : Form)
     → Holds files file source → length source ≤ longest_source → fetched ≡ files → read ≡ source → Front Three read (Ok form)
-    → bytes ≡ image_bytes (form_image form) → Puts image_name bytes fetched files' → KeepsImage file image_name files files' (form_image form)
+    → bytes ≡ bm_image (form_image form) → Puts image_name bytes fetched files' → KeepsImage file image_name files files' (form_image form)
 kept_image file image_name files fetched files' source read bytes form holds short same_files same_source is_form spelled puts = record {
   source = source;
   fetched = holds;

@@ -5,7 +5,7 @@ use Rattle.bm_isa.specs.declared.instructions.Instr.TheVariants as instr
 use Rattle.byte_machine.specs.Images.{PlainImage, memset_chk}
 use Rattle.byte_machine.specs.Opening.{rounded}
 use Rattle.byte_machine.specs.declared.images.FnRec.{FnRec}
-use Rattle.c_forms.specs.declared.Form.{Form}
+use Rattle.fort_forms.specs.declared.Form.{Form}
 
 -- the checked call with the array's place, the byte, the count and the array's size, then the result
 abbrev pub form_code : Form → List Instr

@@ -5,7 +5,7 @@ use Rattle.fc_base.specs.Runs.{Ended, Runs}
 use Rattle.fc_base.specs.declared.levels.End.TheVariants as ends
 use Rattle.fc_base.specs.declared.levels.Level.TheVariants as levels
 use Rattle.fc_base.specs.declared.levels.Mode.TheVariants as modes
-use Rattle.c_forms.specs.declared.Form.{Form}
+use Rattle.fort_forms.specs.declared.Form.{Form}
 
 -- the events of the form's plain meaning (C11 7.24.6.1, glibc's `__memset_chk`): the size of the array is asked in mode 0, and is
 -- its true size; the call exceeds where it sets more bytes than that

@@ -6,7 +6,7 @@ use Rattle.fc_base.specs.Runs.{Ended, Follows}
 use Rattle.fc_base.specs.declared.levels.End.{End}
 use Rattle.fc_base.specs.declared.levels.Level.TheVariants.{Three}
 use Rattle.fc_base.specs.declared.refusals.Refusal.{Refusal}
-use Rattle.c_forms.specs.declared.Form.{Form}
+use Rattle.fort_forms.specs.declared.Form.{Form}
 use Rattle.c_front.specs.Front.{Front}
 use Rattle.byte_machine.specs.Images.{PlainImage, function_at}
 use Rattle.byte_machine.specs.Opening.{ArgumentsFit, first_core, machine_runs, program_of}
@@ -16,7 +16,7 @@ use Rattle.fort_words.specs.declared.Outcome.{Outcome}
 use Rattle.fort_words.specs.declared.Outcome.TheVariants as outcomes
 use Rattle.fort_words.specs.Commands.{Means, run_of}
 use Rattle.fort_driver.specs.Forms.{form_runs}
-use Rattle.image_bytes.specs.Spelling.{SpellsImage}
+use Rattle.bm_image.specs.Spelling.{SpellsImage}
 
 -- the longest source, in bytes
 abbrev pub longest_source : ℕ

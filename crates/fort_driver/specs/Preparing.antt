@@ -2,7 +2,7 @@
 use Rattle.std.specs.Prelude.{◌≡◌, ◌≢◌, ℕ, ◌≤◌, ◌<◌, List, [], length, Option, None, Result, Ok, Err, ◌⊎◌}
 use Rattle.fc_base.specs.Outside.{Files, KeepsOthers, Rose}
 use Rattle.fc_base.specs.declared.levels.Level.TheVariants.{Three}
-use Rattle.c_forms.specs.declared.Form.{Form}
+use Rattle.fort_forms.specs.declared.Form.{Form}
 use Rattle.c_front.specs.Front.{Front}
 use Rattle.byte_machine.specs.Images.{PlainImage}
 use Rattle.byte_machine.specs.Opening.{first_core, program_of}

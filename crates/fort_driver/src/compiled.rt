@@ -2,13 +2,13 @@
 
 ghost use Rattle.std.specs.Prelude.{◌≡◌, ◌+◌, IfOk};
 ghost use Rattle.byte_machine.specs.Images.{plain_image};
-ghost use Rattle.c_forms.specs.Forms.{IsForm};
+ghost use Rattle.fort_forms.specs.Forms.{IsForm};
 ghost use Rattle.fort_driver.specs.Compiled.{form_image};
 
 use bm_isa::Instr;
 use byte_machine::{FnRec, Image};
-use c_forms::Form;
 use fc_base::NoMemory;
+use fort_forms::Form;
 use std::alloc::Global;
 
 /// The number of the checked memset among the machine's library calls.

@@ -3,21 +3,21 @@
 ghost use Rattle.std.specs.Prelude.{◌≡◌, ◌↔◌, ℕ, List, [], None, Some, Ok, Err, IfOk, IfErr, ◌⊎◌};
 ghost use Rattle.fc_base.specs.Outside.{Files, Rose};
 ghost use Rattle.fc_base.specs.declared.refusals.Refusal.{Refusal};
-ghost use Rattle.c_forms.specs.Forms.{IsForm};
+ghost use Rattle.fort_forms.specs.Forms.{IsForm};
 ghost use Rattle.byte_machine.specs.Images.{PlainImage, plain_image};
 ghost use Rattle.fort_words.specs.Commands.{IsUsage, default_steps};
 ghost use Rattle.fort_driver.specs.Compiled.{form_image};
-ghost use Rattle.image_bytes.specs.Spelling.{image_bytes};
+ghost use Rattle.bm_image.specs.Spelling.{bm_image};
 ghost use Rattle.fort_driver.specs.Fort.{Keeps, KeepsSome, KeepsCounts, Ran, Runs, HasRun, HasNotRun, StoreFailed, IsRun, IsTooLong, IsRefused, StoodStill, NoneFailed, Answers};
 ghost use Rattle.fort_driver.specs.Preparing.{IsReady, NotReady, KeepsOtherCounts};
 
 use crate::compiled::compile;
+use bm_image::write_image;
 use byte_machine::{Image, Machine, Stop};
-use c_forms::Form;
 use c_front::read_source;
 use fc_base::{Fault, FetchFault, KeepFault, Level, NoMemory, Sink, Source, Store, Words};
+use fort_forms::Form;
 use fort_words::{Outcome, run_names};
-use image_bytes::write_image;
 use std::alloc::Global;
 
 /// The longest source, in bytes.
@@ -37,7 +37,7 @@ struct Built {
 fn build(alloc: Global, form: &Form) -> Result<Built, NoMemory>
     requires { IsForm form.now }
     ensures image { IfOk result (λ built. plain_image built.image ≡ form_image form.now) }
-    ensures bytes { IfOk result (λ built. built.bytes.items ≡ image_bytes (form_image form.now)) }
+    ensures bytes { IfOk result (λ built. built.bytes.items ≡ bm_image (form_image form.now)) }
 {
     let image = compile(alloc, form)?;
     let bytes = write_image(alloc, &image)?;

@@ -12,12 +12,12 @@ use Rattle.fc_base.specs.declared.rules.Rule.TheVariants as rule
 use Rattle.c_tokens.specs.declared.tokens.Token.{Token}
 use Rattle.c_tree.specs.declared.externals.External.{External}
 use Rattle.c_tree.specs.declared.externals.FileTree.{FileTree}
-use Rattle.c_grammar.specs.Terminals.{lexeme}
-use Rattle.c_grammar.specs.File as f
-use Rattle.c_grammar.specs.File.{Declarations, behind, Declares, Derives, first_left_out, first_deep}
-use Rattle.c_grammar.specs.Reading.{Read}
-use Rattle.c_grammar.specs.ReadingFile.{NamedExternal, external, goes_on, file}
-use Rattle.c_grammar.proofs.Files.{file_declares}
+use Rattle.parse_meaning.specs.Terminals.{lexeme}
+use Rattle.parse_meaning.specs.File as f
+use Rattle.parse_meaning.specs.File.{Declarations, behind, Declares, Derives, first_left_out, first_deep}
+use Rattle.parse_meaning.specs.Reading.{Read}
+use Rattle.parse_meaning.specs.ReadingFile.{NamedExternal, external, goes_on, file}
+use Rattle.parse_meaning.proofs.Files.{file_declares}
 use Rattle.parse_decl.specs.IsRead.{IsRead}
 use Rattle.parse_tokens.proofs.Names.{SameNames, lexemes_alike, append_same}
 

@@ -4,7 +4,7 @@ use Rattle.fc_base.specs.declared.refusals.Fault.{Fault}
 use Rattle.fc_base.specs.declared.refusals.Fault.TheVariants as refused
 use Rattle.fc_base.specs.declared.rules.Rule.TheVariants as rule
 use Rattle.c_tree.specs.declared.externals.External.{External}
-use Rattle.c_grammar.specs.File.{Declarations}
+use Rattle.parse_meaning.specs.File.{Declarations}
 
 -- the declarations are those, or the first that is none is refused, unless memory ran out
 abbrev pub IsRead : Declarations → Result (List External) Fault → Type 0

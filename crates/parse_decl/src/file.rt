@@ -2,10 +2,10 @@
 
 ghost use Rattle.std.specs.Prelude.{◌≡◌, ℕ, ◌≢◌, ◌-◌, ◌++◌, ◌∷◌, [], List, length, map, drop, Some, None, IfOk, IfErr, OnOk, MatchOption};
 ghost use Rattle.c_tokens.specs.declared.tokens.Token.{Token};
-ghost use Rattle.c_grammar.specs.File.{Derives};
-ghost use Rattle.c_grammar.specs.Terminals.{has, lexeme};
-ghost use Rattle.c_grammar.specs.Reading.{Read};
-ghost use Rattle.c_grammar.specs.ReadingFile as spec;
+ghost use Rattle.parse_meaning.specs.File.{Derives};
+ghost use Rattle.parse_meaning.specs.Terminals.{has, lexeme};
+ghost use Rattle.parse_meaning.specs.Reading.{Read};
+ghost use Rattle.parse_meaning.specs.ReadingFile as spec;
 ghost use Rattle.fc_base.specs.Answers.{Answers};
 ghost use Rattle.parse_externals.specs.Externals.{external_of};
 ghost use Rattle.parse_decl.specs.IsRead.{IsRead};

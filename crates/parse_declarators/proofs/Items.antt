@@ -2,13 +2,13 @@
 use Rattle.std.proofs.Common.{◌≡◌, ℕ, suc, List, [], ◌∷◌, Option, refl}
 use Rattle.c_tokens.specs.declared.puncts.Punct.TheVariants as p
 use Rattle.c_tree.specs.declared.nodes.Param.{Param}
-use Rattle.c_grammar.specs.declared.terminals.Terminal.TheVariants as k
-use Rattle.c_grammar.specs.Terminals.{Lexeme, at}
-use Rattle.c_grammar.specs.Reading.{Read, ◌>>=◌, expression}
-use Rattle.c_grammar.specs.ReadingDeclarators.{param, params_behind, params_some, declarator}
-use Rattle.parse_ends.specs.Ends.{params_end_at}
+use Rattle.parse_meaning.specs.declared.terminals.Terminal.TheVariants as k
+use Rattle.parse_meaning.specs.Terminals.{Lexeme, at}
+use Rattle.parse_meaning.specs.Reading.{Read, ◌>>=◌, expression}
+use Rattle.parse_meaning.specs.ReadingDeclarators.{param, params_behind, params_some, declarator}
+use Rattle.parse_lists.specs.Ends.{params_end_at}
 use Rattle.parse_tokens.proofs.Binds.{bind_each}
-use Rattle.parse_ends.proofs.Lists.{ListOf, ended}
+use Rattle.parse_lists.proofs.Lists.{ListOf, ended}
 
 module _ (n : ℕ) where
   params_by_end : (later : List Lexeme → Option (Read (List Param))) (x : Read Param) (t : List Lexeme) →

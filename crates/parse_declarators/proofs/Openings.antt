@@ -4,22 +4,22 @@ use Rattle.std.proofs.lemmas.Bool.{false≢true}
 use Rattle.std.specs.Prelude.{IfSome, IfOk, IfErr, Result, Ok, Err, ◌≢◌}
 use Rattle.c_tokens.specs.declared.puncts.Punct.TheVariants as p
 use Rattle.c_tokens.specs.declared.tokens.Token.{Token}
-use Rattle.c_grammar.specs.declared.terminals.Terminal.TheVariants as k
-use Rattle.c_grammar.specs.Terminals.{Lexeme, at, place_of}
-use Rattle.c_grammar.specs.Reading.{Read, ◌>>=◌, after_right_paren, found, pointer_words, expression}
-use Rattle.c_grammar.specs.ReadingDeclarators.{Named, grouped, first, direct, pointer_to, whole, declarator}
-use Rattle.c_grammar.proofs.Basics.{weaken}
+use Rattle.parse_meaning.specs.declared.terminals.Terminal.TheVariants as k
+use Rattle.parse_meaning.specs.Terminals.{Lexeme, at, place_of}
+use Rattle.parse_meaning.specs.Reading.{Read, ◌>>=◌, after_right_paren, found, pointer_words, expression}
+use Rattle.parse_meaning.specs.ReadingDeclarators.{Named, grouped, first, direct, pointer_to, whole, declarator}
+use Rattle.parse_meaning.proofs.Basics.{weaken}
 use Rattle.parse_declarators.specs.declared.declarators.Pointer.{Pointer}
 use Rattle.parse_tokens.specs.declared.faults.ParseFault.{ParseFault}
 use Rattle.parse_tokens.specs.declared.faults.ParseFault.TheVariants as fault
-use Rattle.parse_tokens.specs.declared.faults.Tall.{Tall}
+use Rattle.parse_tokens.specs.declared.faults.WithHeight.{WithHeight}
 use Rattle.parse_declarators.specs.declared.named.Named.{Named as NamedTree}
 use Rattle.parse_declarators.specs.declared.declarators.Opening.{Opening}
 use Rattle.parse_declarators.specs.declared.declarators.Openings.{Openings}
 use Rattle.parse_declarators.specs.Named.{as_read, GivesNamed, GivesOpenings}
 use Rattle.parse_declarators.specs.Suffixes.{pointer_at, opening_at, left_paren_at, name_at, pointed, closed, inmost_at, in_parens, around}
 use Rattle.parse_tokens.proofs.Binds.{bind_same, bind_bind}
-use Rattle.parse_parts.proofs.Misses.{nothing_found, some_same}
+use Rattle.parse_leaves.proofs.Misses.{nothing_found, some_same}
 use Rattle.parse_declarators.proofs.Lengths.{first_shorter}
 use Rattle.parse_declarators.proofs.Suffixes.{suffixes_alike}
 
@@ -167,7 +167,7 @@ module _ (n : ℕ) where
 
 pub openings_given : (s t u : List Lexeme) (outer : List Opening) (inmost : Opening) →
     ((n : ℕ) → whole (suc n) (expression n) (declarator n) (suc (length s)) s ≡ around (suc n) (expression n) (declarator n) outer (inmost_at (suc n) (expression n) (declarator n) inmost t)) →
-    (name : Result (Tall NamedTree) ParseFault) (r : Result (Openings × Tall NamedTree) ParseFault) → GivesNamed (name_at t) name u →
+    (name : Result (WithHeight NamedTree) ParseFault) (r : Result (Openings × WithHeight NamedTree) ParseFault) → GivesNamed (name_at t) name u →
     IfOk r (λ x. (x.0 ≡ record { outer = outer; inmost = inmost }) × (name ≡ Ok x.1)) → IfErr r (λ e. name ≡ Err e) → GivesOpenings s r u
 openings_given s t u outer inmost named name (Ok x) reads ok err = λ n.
     let some : name_at t ≡ Some (as_read x.1 u) = rw ok.1 at reads in

@@ -4,16 +4,16 @@ use Rattle.std.specs.Prelude.{if◌then◌else◌, nat_le}
 use Rattle.fc_base.specs.declared.refusals.Place.{Place}
 use Rattle.c_tokens.specs.declared.puncts.Punct.TheVariants as p
 use Rattle.c_tokens.specs.declared.tokens.Token.{Token}
-use Rattle.c_grammar.specs.declared.terminals.Terminal.TheVariants as k
-use Rattle.c_grammar.specs.Terminals.{Lexeme, at}
-use Rattle.c_grammar.specs.Reading.{Read, ◌>>=◌, bounded, bound, expression}
-use Rattle.c_grammar.specs.ReadingDeclarators.{Named, params_in, suffixes_behind, suffixes, declarator}
-use Rattle.c_grammar.proofs.Basics.{weaken}
+use Rattle.parse_meaning.specs.declared.terminals.Terminal.TheVariants as k
+use Rattle.parse_meaning.specs.Terminals.{Lexeme, at}
+use Rattle.parse_meaning.specs.Reading.{Read, ◌>>=◌, bounded, bound, expression}
+use Rattle.parse_meaning.specs.ReadingDeclarators.{Named, params_in, suffixes_behind, suffixes, declarator}
+use Rattle.parse_meaning.proofs.Basics.{weaken}
 use Rattle.parse_declarators.specs.declared.declarators.Suffix.TheVariants as suffix
 use Rattle.parse_declarators.specs.Suffixes.{suffix_at, with_bound, with_params, array_at, function_at}
 use Rattle.parse_tokens.proofs.Binds.{bind_same, bind_each, bind_bind}
-use Rattle.parse_parts.proofs.Lengths.{bound_shorter}
-use Rattle.parse_parts.proofs.Misses.{nothing_found, found_nothing}
+use Rattle.parse_leaves.proofs.Lengths.{bound_shorter}
+use Rattle.parse_leaves.proofs.Misses.{nothing_found, found_nothing}
 use Rattle.parse_declarators.proofs.Lengths.{params_shorter}
 
 function_array : Some suffix.Function ≡ Some suffix.Array → ⊥

@@ -5,11 +5,11 @@ use Rattle.c_tokens.specs.declared.puncts.Punct.TheVariants as p
 use Rattle.c_tree.specs.declared.nodes.Expr.{Expr}
 use Rattle.c_tree.specs.declared.nodes.Declarator.TheVariants as d
 use Rattle.c_tree.specs.declared.nodes.Params.{Params}
-use Rattle.c_grammar.specs.declared.terminals.Terminal.TheVariants as k
-use Rattle.c_grammar.specs.Terminals.{Lexeme, at, text_of, place_of}
-use Rattle.c_grammar.specs.Expressions.{bare, parameters, other, behind}
-use Rattle.c_grammar.specs.Reading.{Read, ◌>>=◌, found, bounded, after_left_paren, after_right_paren, after_left_bracket, pointer_words, bound}
-use Rattle.c_grammar.specs.ReadingDeclarators.{Named, as_named, params_in, suffixes}
+use Rattle.parse_meaning.specs.declared.terminals.Terminal.TheVariants as k
+use Rattle.parse_meaning.specs.Terminals.{Lexeme, at, text_of, place_of}
+use Rattle.parse_meaning.specs.Expressions.{bare, parameters, other, behind}
+use Rattle.parse_meaning.specs.Reading.{Read, ◌>>=◌, found, bounded, after_left_paren, after_right_paren, after_left_bracket, pointer_words, bound}
+use Rattle.parse_meaning.specs.ReadingDeclarators.{Named, as_named, params_in, suffixes}
 use Rattle.parse_declarators.specs.declared.declarators.Pointer.{Pointer}
 use Rattle.parse_declarators.specs.declared.declarators.Opening.{Opening}
 use Rattle.parse_declarators.specs.declared.declarators.Suffix.{Suffix}

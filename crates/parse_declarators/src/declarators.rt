@@ -1,9 +1,9 @@
 //! Declarators (C11 6.7.6).
 
 ghost use Rattle.std.specs.Prelude.{◌≡◌, ◌+◌, ◌-◌, ◌≤◌, ◌<◌, ◌^◌, suc, max, List, Some, length, IfOk, IsTrue};
-ghost use Rattle.c_grammar.specs.Terminals.{Lexeme};
-ghost use Rattle.c_grammar.specs.Reading.{bounded, expression, found};
-ghost use Rattle.c_grammar.specs.ReadingDeclarators as spec;
+ghost use Rattle.parse_meaning.specs.Terminals.{Lexeme};
+ghost use Rattle.parse_meaning.specs.Reading.{bounded, expression, found};
+ghost use Rattle.parse_meaning.specs.ReadingDeclarators as spec;
 ghost use Rattle.parse_tokens.specs.Gives.{Gives, Low};
 ghost use Rattle.parse_declarators.specs.Named.{GivesNamed, GivesOpenings, HasRoom, as_read};
 ghost use Rattle.parse_declarators.specs.Nests.{Nests};
@@ -11,13 +11,13 @@ ghost use Rattle.parse_declarators.specs.Suffixes.{begins_star, pointer_at, open
 
 use crate::named::{Named, Nearest};
 use crate::params::Declarators;
-use c_grammar::Terminal;
 use c_tokens::Punct;
 use c_tree::{Declarator, Expr, Params, PointerWord};
 use fc_base::{Place, both};
-use parse_parts::{boxed_behind, pointer_words};
-use parse_terms::bound;
-use parse_tokens::{ParseFault, Tall, Tokens, copy_text, kept, text_of};
+use parse_expressions::bound;
+use parse_leaves::{boxed_behind, pointer_words};
+use parse_meaning::Terminal;
+use parse_tokens::{ParseFault, Tokens, WithHeight, copy_text, kept, text_of};
 use sqlite_items::{Boxed, Items};
 use std::alloc::{AllocError, Global};
 
@@ -116,13 +116,16 @@ fn next_suffix(tokens: &Tokens<'_>) -> Option<Suffix>
 }
 
 /// The name that is declared.
-fn take_name<'a>(alloc: Global, tokens: &mut Tokens<'a>) -> Result<Tall<Named<'a>>, ParseFault>
+fn take_name<'a>(
+    alloc: Global,
+    tokens: &mut Tokens<'a>,
+) -> Result<WithHeight<Named<'a>>, ParseFault>
     ensures reads { GivesNamed (name_at tokens.old) result tokens.new }
     ensures low { IfOk result (λ x. x.height ≡ 1) }
     ensures on { IfOk result (λ _. length tokens.new < length tokens.old) }
 {
     match tokens.next() {
-        Some((Terminal::Name, token)) => Ok(Tall {
+        Some((Terminal::Name, token)) => Ok(WithHeight {
             tree: Named {
                 tree: Declarator::Name {
                     name: copy_text(alloc, token)?,
@@ -141,7 +144,7 @@ fn take_name<'a>(alloc: Global, tokens: &mut Tokens<'a>) -> Result<Tall<Named<'a
 fn take_openings<'a>(
     alloc: Global,
     tokens: &mut Tokens<'a>,
-) -> Result<(Openings, Tall<Named<'a>>), ParseFault>
+) -> Result<(Openings, WithHeight<Named<'a>>), ParseFault>
     ensures reads { GivesOpenings tokens.old result tokens.new }
     ensures few { length tokens.old < 2 ^ 63 }
     ensures low { IfOk result (λ x. x.1.height ≡ 1) }
@@ -161,8 +164,8 @@ fn take_openings<'a>(
 fn pointed<'a>(
     alloc: Global,
     pointer: Option<Pointer>,
-    direct: Tall<Named<'a>>,
-) -> Result<Tall<Named<'a>>, AllocError>
+    direct: WithHeight<Named<'a>>,
+) -> Result<WithHeight<Named<'a>>, AllocError>
     requires { direct.height < 2 ^ 64 - 1 }
     ensures reads { IfOk result (λ x. (t : List Lexeme) → as_read x t ≡ pointed pointer (as_read direct.entry t)) }
     ensures low { IfOk result (λ x. x.height ≤ direct.entry.height + 1) }
@@ -170,9 +173,9 @@ fn pointed<'a>(
     let Some(Pointer { words, place }) = pointer else {
         return Ok(direct);
     };
-    let Tall { tree: of, height } = direct;
+    let WithHeight { tree: of, height } = direct;
     let (words, tree) = boxed_behind(alloc, words, of.tree)?;
-    Ok(Tall {
+    Ok(WithHeight {
         tree: Named {
             tree: Declarator::Pointer {
                 words,
@@ -189,10 +192,10 @@ fn pointed<'a>(
 /// The declarator with a bound behind it, which begins at `start`.
 fn with_bound<'a>(
     alloc: Global,
-    of: Tall<Named<'a>>,
-    size: Tall<Option<Boxed<Expr>>>,
+    of: WithHeight<Named<'a>>,
+    size: WithHeight<Option<Boxed<Expr>>>,
     start: Place,
-) -> Result<Tall<Named<'a>>, AllocError>
+) -> Result<WithHeight<Named<'a>>, AllocError>
     requires of { of.height + 1 < 2 ^ 64 }
     requires size { size.height + 1 < 2 ^ 64 }
     ensures reads { IfOk result (λ x. (s t : List Lexeme) → as_read x t ≡ with_bound start (as_read of.entry s) (found size.tree size.height t)) }
@@ -201,7 +204,7 @@ fn with_bound<'a>(
     let height = of.height.max(size.height) + 1;
     let of = of.tree;
     let (bound, tree) = boxed_behind(alloc, size.tree, of.tree)?;
-    Ok(Tall {
+    Ok(WithHeight {
         tree: Named {
             tree: Declarator::Array {
                 of: tree,
@@ -218,10 +221,10 @@ fn with_bound<'a>(
 /// The declarator with parameters behind it, which begins at `start`.
 fn with_params<'a>(
     alloc: Global,
-    of: Tall<Named<'a>>,
-    params: Tall<Params>,
+    of: WithHeight<Named<'a>>,
+    params: WithHeight<Params>,
     start: Place,
-) -> Result<Tall<Named<'a>>, AllocError>
+) -> Result<WithHeight<Named<'a>>, AllocError>
     requires of { of.height + 1 < 2 ^ 64 }
     requires params { params.height + 1 < 2 ^ 64 }
     ensures reads { IfOk result (λ x. (s t : List Lexeme) → as_read x t ≡ with_params start (as_read of.entry s) (found params.tree params.height t)) }
@@ -230,7 +233,7 @@ fn with_params<'a>(
     let height = of.height.max(params.height) + 1;
     let of = of.tree;
     let (params, tree) = boxed_behind(alloc, params.tree, of.tree)?;
-    Ok(Tall {
+    Ok(WithHeight {
         tree: Named {
             tree: Declarator::Function {
                 of: tree,
@@ -245,7 +248,10 @@ fn with_params<'a>(
 }
 
 /// The declarator, if its tree is not too high.
-fn within<'a>(found: Tall<Named<'a>>, depth: usize) -> Result<Tall<Named<'a>>, ParseFault>
+fn within<'a>(
+    found: WithHeight<Named<'a>>,
+    depth: usize,
+) -> Result<WithHeight<Named<'a>>, ParseFault>
     requires { depth < 1000 }
     ensures reads { (t : List Lexeme) → GivesNamed (bounded (suc depth) (as_read found.entry t)) result t }
     ensures same { IfOk result (λ x. x.height ≡ found.entry.height) }
@@ -259,7 +265,7 @@ fn bracketed(
     alloc: Global,
     tokens: &mut Tokens<'_>,
     depth: usize,
-) -> Result<Tall<Option<Boxed<Expr>>>, ParseFault>
+) -> Result<WithHeight<Option<Boxed<Expr>>>, ParseFault>
     requires { depth < 1000 }
     ensures reads { Gives (bracketed (expression depth) tokens.old) result tokens.new }
     ensures low { IfOk result (λ x. x.height ≤ depth) }
@@ -269,16 +275,17 @@ fn bracketed(
     bound(alloc, tokens, depth)
 }
 
-impl<'a, F: Fn(Global, &mut Tokens<'a>, usize) -> Result<Tall<Named<'a>>, ParseFault>> Declarators<
-    F,
-> {
+impl<
+    'a,
+    F: Fn(Global, &mut Tokens<'a>, usize) -> Result<WithHeight<Named<'a>>, ParseFault>,
+> Declarators<F> {
     /// A declarator that `[2]` stands behind.
     fn array(
         &self,
         tokens: &mut Tokens<'a>,
         start: Place,
-        of: Tall<Named<'a>>,
-    ) -> Result<Tall<Named<'a>>, ParseFault>
+        of: WithHeight<Named<'a>>,
+    ) -> Result<WithHeight<Named<'a>>, ParseFault>
         requires nests { Nests self.now.depth (F.pre self.now.declarator) (F.post self.now.declarator) }
         requires few { HasRoom of.height tokens.old }
         ensures reads { GivesNamed (array_at (suc self.now.depth) (expression self.now.depth) (spec.declarator self.now.depth) start (as_read of.entry tokens.old) tokens.old) result tokens.new }
@@ -292,7 +299,7 @@ impl<'a, F: Fn(Global, &mut Tokens<'a>, usize) -> Result<Tall<Named<'a>>, ParseF
     }
 
     /// `(int x, char *y)`
-    fn params(&self, tokens: &mut Tokens<'a>) -> Result<Tall<Params>, ParseFault>
+    fn params(&self, tokens: &mut Tokens<'a>) -> Result<WithHeight<Params>, ParseFault>
         requires { Nests self.now.depth (F.pre self.now.declarator) (F.post self.now.declarator) }
         ensures reads { Gives (params_at (suc self.now.depth) (expression self.now.depth) (spec.declarator self.now.depth) tokens.old) result tokens.new }
         ensures low { Low self.now.depth result tokens.old tokens.new }
@@ -307,8 +314,8 @@ impl<'a, F: Fn(Global, &mut Tokens<'a>, usize) -> Result<Tall<Named<'a>>, ParseF
         &self,
         tokens: &mut Tokens<'a>,
         start: Place,
-        of: Tall<Named<'a>>,
-    ) -> Result<Tall<Named<'a>>, ParseFault>
+        of: WithHeight<Named<'a>>,
+    ) -> Result<WithHeight<Named<'a>>, ParseFault>
         requires nests { Nests self.now.depth (F.pre self.now.declarator) (F.post self.now.declarator) }
         requires few { HasRoom of.height tokens.old }
         ensures reads { GivesNamed (function_at (suc self.now.depth) (expression self.now.depth) (spec.declarator self.now.depth) start (as_read of.entry tokens.old) tokens.old) result tokens.new }
@@ -326,8 +333,8 @@ impl<'a, F: Fn(Global, &mut Tokens<'a>, usize) -> Result<Tall<Named<'a>>, ParseF
         &self,
         tokens: &mut Tokens<'a>,
         start: Place,
-        first: Tall<Named<'a>>,
-    ) -> Result<Tall<Named<'a>>, ParseFault>
+        first: WithHeight<Named<'a>>,
+    ) -> Result<WithHeight<Named<'a>>, ParseFault>
         requires nests { Nests self.now.depth (F.pre self.now.declarator) (F.post self.now.declarator) }
         requires few { HasRoom first.height tokens.old }
         ensures reads { GivesNamed (spec.suffixes (suc self.now.depth) (expression self.now.depth) (spec.declarator self.now.depth) (length tokens.old) start (as_read first.entry tokens.old)) result tokens.new }
@@ -349,8 +356,8 @@ impl<'a, F: Fn(Global, &mut Tokens<'a>, usize) -> Result<Tall<Named<'a>>, ParseF
         &self,
         tokens: &mut Tokens<'a>,
         opening: Opening,
-        first: Tall<Named<'a>>,
-    ) -> Result<Tall<Named<'a>>, ParseFault>
+        first: WithHeight<Named<'a>>,
+    ) -> Result<WithHeight<Named<'a>>, ParseFault>
         requires nests { Nests self.now.depth (F.pre self.now.declarator) (F.post self.now.declarator) }
         requires few { HasRoom first.height tokens.old }
         ensures reads { GivesNamed (closed (suc self.now.depth) (expression self.now.depth) (spec.declarator self.now.depth) opening (as_read first.entry tokens.old)) result tokens.new }
@@ -368,8 +375,8 @@ impl<'a, F: Fn(Global, &mut Tokens<'a>, usize) -> Result<Tall<Named<'a>>, ParseF
         &self,
         tokens: &mut Tokens<'a>,
         opening: Opening,
-        inner: Tall<Named<'a>>,
-    ) -> Result<Tall<Named<'a>>, ParseFault>
+        inner: WithHeight<Named<'a>>,
+    ) -> Result<WithHeight<Named<'a>>, ParseFault>
         requires nests { Nests self.now.depth (F.pre self.now.declarator) (F.post self.now.declarator) }
         requires few { HasRoom inner.height tokens.old }
         ensures reads { GivesNamed (in_parens (suc self.now.depth) (expression self.now.depth) (spec.declarator self.now.depth) opening (Some (as_read inner.entry tokens.old))) result tokens.new }
@@ -387,8 +394,8 @@ impl<'a, F: Fn(Global, &mut Tokens<'a>, usize) -> Result<Tall<Named<'a>>, ParseF
         &self,
         tokens: &mut Tokens<'a>,
         outer: Items<Opening>,
-        inner: Tall<Named<'a>>,
-    ) -> Result<Tall<Named<'a>>, ParseFault>
+        inner: WithHeight<Named<'a>>,
+    ) -> Result<WithHeight<Named<'a>>, ParseFault>
         requires nests { Nests self.now.depth (F.pre self.now.declarator) (F.post self.now.declarator) }
         requires few { HasRoom inner.height tokens.old }
         ensures reads { GivesNamed (around (suc self.now.depth) (expression self.now.depth) (spec.declarator self.now.depth) outer (Some (as_read inner.entry tokens.old))) result tokens.new }
@@ -407,7 +414,7 @@ impl<'a, F: Fn(Global, &mut Tokens<'a>, usize) -> Result<Tall<Named<'a>>, ParseF
     }
 
     /// `*(*x)[2]`: one loop has gone in to the name, and another one goes out again.
-    fn whole(&self, tokens: &mut Tokens<'a>) -> Result<Tall<Named<'a>>, ParseFault>
+    fn whole(&self, tokens: &mut Tokens<'a>) -> Result<WithHeight<Named<'a>>, ParseFault>
         requires { Nests self.now.depth (F.pre self.now.declarator) (F.post self.now.declarator) }
         ensures reads { GivesNamed (spec.whole (suc self.now.depth) (expression self.now.depth) (spec.declarator self.now.depth) (suc (length tokens.old)) tokens.old) result tokens.new }
         ensures low { Low (self.now.depth + 1) result tokens.old tokens.new }
@@ -427,7 +434,7 @@ pub fn declarator<'a>(
     alloc: Global,
     tokens: &mut Tokens<'a>,
     depth: usize,
-) -> Result<Tall<Named<'a>>, ParseFault>
+) -> Result<WithHeight<Named<'a>>, ParseFault>
     requires { depth < 1000 }
     ensures reads { GivesNamed (spec.declarator depth tokens.old) result tokens.new }
     ensures low { Low depth result tokens.old tokens.new }

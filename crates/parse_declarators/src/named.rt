@@ -1,7 +1,7 @@
 //! What a declarator declares.
 
 ghost use Rattle.std.specs.Prelude.{◌≡◌};
-ghost use Rattle.c_grammar.specs.Expressions.{nearer};
+ghost use Rattle.parse_meaning.specs.Expressions.{nearer};
 ghost use Rattle.parse_declarators.specs.Named.{nearest_of};
 
 use c_tree::Declarator;

@@ -1,21 +1,21 @@
 //! Parameters (C11 6.7.6).
 
 ghost use Rattle.std.specs.Prelude.{◌+◌, ◌≤◌, ◌<◌, suc, length, IfOk};
-ghost use Rattle.c_grammar.specs.Reading.{expression};
-ghost use Rattle.c_grammar.specs.ReadingDeclarators as spec;
+ghost use Rattle.parse_meaning.specs.Reading.{expression};
+ghost use Rattle.parse_meaning.specs.ReadingDeclarators as spec;
 ghost use Rattle.parse_tokens.specs.Gives.{Gives, Low};
 ghost use Rattle.parse_declarators.specs.Named.{as_specs};
 ghost use Rattle.parse_declarators.specs.Nests.{Nests};
 
 use crate::named::Named;
-use c_grammar::{Keyword, Terminal};
 use c_tokens::Punct;
 use c_tree::{Param, Params};
 use fc_base::{Place, both};
-use parse_ends::{names, take_params_end};
-use parse_parts::{Context, SpecList, plain_specs};
-use parse_terms::abstract_declarator;
-use parse_tokens::{ParseFault, Tall, Tokens};
+use parse_expressions::abstract_declarator;
+use parse_leaves::{Context, SpecList, plain_specs};
+use parse_lists::{names, take_params_end};
+use parse_meaning::{Keyword, Terminal};
+use parse_tokens::{ParseFault, Tokens, WithHeight};
 use sqlite_items::Items;
 use std::alloc::Global;
 
@@ -28,16 +28,17 @@ pub struct Declarators<F> {
     pub declarator: F,
 }
 
-impl<'a, F: Fn(Global, &mut Tokens<'a>, usize) -> Result<Tall<Named<'a>>, ParseFault>> Declarators<
-    F,
-> {
+impl<
+    'a,
+    F: Fn(Global, &mut Tokens<'a>, usize) -> Result<WithHeight<Named<'a>>, ParseFault>,
+> Declarators<F> {
     /// `int *x`, behind `int`
-    #[tactic(auto, unfolding(c_grammar::specs::ReadingDeclarators::param_named))]
+    #[tactic(auto, unfolding(parse_meaning::specs::ReadingDeclarators::param_named))]
     fn param_named(
         &self,
         tokens: &mut Tokens<'a>,
-        specs: Tall<SpecList>,
-    ) -> Result<Tall<Param>, ParseFault>
+        specs: WithHeight<SpecList>,
+    ) -> Result<WithHeight<Param>, ParseFault>
         requires nests { Nests self.now.depth (F.pre self.now.declarator) (F.post self.now.declarator) }
         requires plain { specs.height ≤ 1 }
         ensures reads { Gives (spec.param_named (suc self.now.depth) (expression self.now.depth) (spec.declarator self.now.depth) (as_specs specs tokens.old)) result tokens.new }
@@ -46,7 +47,7 @@ impl<'a, F: Fn(Global, &mut Tokens<'a>, usize) -> Result<Tall<Named<'a>>, ParseF
     {
         let named = (self.declarator)(self.alloc, tokens, self.depth);
         let (specs, named) = both(specs, named)?;
-        Ok(Tall {
+        Ok(WithHeight {
             tree: Param {
                 specs: specs.tree.specs,
                 declarator: named.tree.tree,
@@ -56,13 +57,13 @@ impl<'a, F: Fn(Global, &mut Tokens<'a>, usize) -> Result<Tall<Named<'a>>, ParseF
     }
 
     /// `int *[2]`, behind `int`
-    #[tactic(auto, unfolding(c_grammar::specs::ReadingDeclarators::param_abstract))]
+    #[tactic(auto, unfolding(parse_meaning::specs::ReadingDeclarators::param_abstract))]
     fn param_abstract(
         &self,
         tokens: &mut Tokens<'a>,
         place: Place,
-        specs: Tall<SpecList>,
-    ) -> Result<Tall<Param>, ParseFault>
+        specs: WithHeight<SpecList>,
+    ) -> Result<WithHeight<Param>, ParseFault>
         requires nests { Nests self.now.depth (F.pre self.now.declarator) (F.post self.now.declarator) }
         requires plain { specs.height ≤ 1 }
         ensures reads { Gives (spec.param_abstract (suc self.now.depth) (expression self.now.depth) (spec.declarator self.now.depth) place (as_specs specs tokens.old)) result tokens.new }
@@ -71,7 +72,7 @@ impl<'a, F: Fn(Global, &mut Tokens<'a>, usize) -> Result<Tall<Named<'a>>, ParseF
     {
         let unnamed = abstract_declarator(self.alloc, tokens, self.depth, place);
         let (specs, unnamed) = both(specs, unnamed)?;
-        Ok(Tall {
+        Ok(WithHeight {
             tree: Param {
                 specs: specs.tree.specs,
                 declarator: unnamed.tree,
@@ -81,8 +82,8 @@ impl<'a, F: Fn(Global, &mut Tokens<'a>, usize) -> Result<Tall<Named<'a>>, ParseF
     }
 
     /// A parameter.
-    #[tactic(auto, unfolding(c_grammar::specs::ReadingDeclarators::param))]
-    fn param(&self, tokens: &mut Tokens<'a>) -> Result<Tall<Param>, ParseFault>
+    #[tactic(auto, unfolding(parse_meaning::specs::ReadingDeclarators::param))]
+    fn param(&self, tokens: &mut Tokens<'a>) -> Result<WithHeight<Param>, ParseFault>
         requires { Nests self.now.depth (F.pre self.now.declarator) (F.post self.now.declarator) }
         ensures reads { Gives (spec.param (suc self.now.depth) (expression self.now.depth) (spec.declarator self.now.depth) tokens.old) result tokens.new }
         ensures low { Low (self.now.depth + 1) result tokens.old tokens.new }
@@ -98,7 +99,7 @@ impl<'a, F: Fn(Global, &mut Tokens<'a>, usize) -> Result<Tall<Named<'a>>, ParseF
     }
 
     /// `int x, char *y)`
-    fn params_some(&self, tokens: &mut Tokens<'a>) -> Result<Tall<Items<Param>>, ParseFault>
+    fn params_some(&self, tokens: &mut Tokens<'a>) -> Result<WithHeight<Items<Param>>, ParseFault>
         requires { Nests self.now.depth (F.pre self.now.declarator) (F.post self.now.declarator) }
         ensures reads { Gives (spec.params_some (suc self.now.depth) (expression self.now.depth) (spec.declarator self.now.depth) (length tokens.old) tokens.old) result tokens.new }
         ensures low { Low (self.now.depth + 1) result tokens.old tokens.new }
@@ -112,7 +113,7 @@ impl<'a, F: Fn(Global, &mut Tokens<'a>, usize) -> Result<Tall<Named<'a>>, ParseF
             trees.push(param.tree)?;
             height = height.max(param.height);
             if take_params_end(tokens)? {
-                return Ok(Tall {
+                return Ok(WithHeight {
                     tree: trees,
                     height,
                 });
@@ -121,22 +122,22 @@ impl<'a, F: Fn(Global, &mut Tokens<'a>, usize) -> Result<Tall<Named<'a>>, ParseF
         Err(ParseFault::NoDerivation)
     }
 
-    #[tactic(auto, unfolding(c_grammar::specs::ReadingDeclarators::params_list))]
-    fn params_list(&self, tokens: &mut Tokens<'a>) -> Result<Tall<Params>, ParseFault>
+    #[tactic(auto, unfolding(parse_meaning::specs::ReadingDeclarators::params_list))]
+    fn params_list(&self, tokens: &mut Tokens<'a>) -> Result<WithHeight<Params>, ParseFault>
         requires { Nests self.now.depth (F.pre self.now.declarator) (F.post self.now.declarator) }
         ensures reads { Gives (spec.params_list (suc self.now.depth) (expression self.now.depth) (spec.declarator self.now.depth) tokens.old) result tokens.new }
         ensures low { Low (self.now.depth + 1) result tokens.old tokens.new }
         ensures on { IfOk result (λ _. length tokens.new < length tokens.old) }
     {
         let params = self.params_some(tokens)?;
-        Ok(Tall {
+        Ok(WithHeight {
             tree: Params::List(params.tree),
             height: params.height,
         })
     }
 
     /// What stands behind the `(` of a function declarator, up to and with its `)`.
-    pub fn params_in(&self, tokens: &mut Tokens<'a>) -> Result<Tall<Params>, ParseFault>
+    pub fn params_in(&self, tokens: &mut Tokens<'a>) -> Result<WithHeight<Params>, ParseFault>
         requires { Nests self.now.depth (F.pre self.now.declarator) (F.post self.now.declarator) }
         ensures reads { Gives (spec.params_in (suc self.now.depth) (expression self.now.depth) (spec.declarator self.now.depth) tokens.old) result tokens.new }
         ensures low { Low (self.now.depth + 1) result tokens.old tokens.new }
@@ -146,7 +147,7 @@ impl<'a, F: Fn(Global, &mut Tokens<'a>, usize) -> Result<Tall<Named<'a>>, ParseF
         match ahead.next() {
             Some((Terminal::Punct(Punct::RightParen), _)) => {
                 *tokens = ahead;
-                Ok(Tall {
+                Ok(WithHeight {
                     tree: Params::Empty,
                     height: 0,
                 })
@@ -154,7 +155,7 @@ impl<'a, F: Fn(Global, &mut Tokens<'a>, usize) -> Result<Tall<Named<'a>>, ParseF
             Some((Terminal::Word(Keyword::Void), _)) => match ahead.next() {
                 Some((Terminal::Punct(Punct::RightParen), _)) => {
                     *tokens = ahead;
-                    Ok(Tall {
+                    Ok(WithHeight {
                         tree: Params::Void,
                         height: 0,
                     })

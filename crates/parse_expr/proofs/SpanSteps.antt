@@ -3,17 +3,17 @@ use Rattle.std.proofs.Common.{◌≡◌, ℕ, zero, suc, ◌<◌, ◌≤◌, Lis
 use Rattle.std.specs.Prelude.{if◌then◌else◌}
 use Rattle.c_tokens.specs.declared.tokens.Token.{Token}
 use Rattle.c_tree.specs.declared.nodes.Expr.{Expr}
-use Rattle.c_grammar.specs.Terminals.{Lexeme, lexeme}
-use Rattle.c_grammar.specs.Expressions.{IsExpr}
-use Rattle.c_grammar.specs.Spans.{ends, questions_after, brackets_after, span, Spells}
-use Rattle.c_grammar.specs.Reading.{found, expression}
-use Rattle.c_grammar.proofs.Complete.{Ends}
-use Rattle.c_grammar.proofs.CompleteExprs.{expression_reads}
-use Rattle.c_grammar.proofs.Sound.{expression_sound}
+use Rattle.parse_meaning.specs.Terminals.{Lexeme, lexeme}
+use Rattle.parse_meaning.specs.Expressions.{IsExpr}
+use Rattle.parse_meaning.specs.Spans.{ends, questions_after, brackets_after, span, Spells}
+use Rattle.parse_meaning.specs.Reading.{found, expression}
+use Rattle.parse_meaning.proofs.Complete.{Ends}
+use Rattle.parse_meaning.proofs.CompleteExprs.{expression_reads}
+use Rattle.parse_meaning.proofs.Sound.{expression_sound}
 use Rattle.parse_expr.specs.declared.spans.ExprForm.{ExprForm}
 use Rattle.parse_expr.specs.declared.spans.ExprForm.TheVariants.{Full, Assign, Cond}
 use Rattle.parse_expr.specs.Forms.{level_of, ends_at_commas}
-use Rattle.parse_parts.proofs.Misses.{nothing_found, some_same}
+use Rattle.parse_leaves.proofs.Misses.{nothing_found, some_same}
 
 -- ---- The tokens of a span
 

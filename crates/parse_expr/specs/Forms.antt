@@ -1,6 +1,6 @@
 -- The forms in which an expression can be asked for.
 use Rattle.std.specs.Prelude.{ℕ, Bool, true, false}
-use Rattle.c_grammar.specs.Expressions.{conditional, assignment, expression}
+use Rattle.parse_meaning.specs.Expressions.{conditional, assignment, expression}
 use Rattle.parse_expr.specs.declared.spans.ExprForm.{ExprForm}
 use Rattle.parse_expr.specs.declared.spans.ExprForm.TheVariants.{Full, Assign, Cond}
 

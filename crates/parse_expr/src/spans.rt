@@ -2,14 +2,14 @@
 
 ghost use Rattle.std.specs.Prelude.{◌≡◌, ◌≤◌, ◌<◌, ◌^◌, ◌+◌, length, drop, IfOk, IfErr};
 ghost use Rattle.c_tree.specs.declared.nodes.Expr.{Expr};
-ghost use Rattle.c_grammar.specs.Spans.{ends, questions_after, brackets_after, span, Spells};
+ghost use Rattle.parse_meaning.specs.Spans.{ends, questions_after, brackets_after, span, Spells};
 ghost use Rattle.parse_tokens.specs.declared.faults.ParseFault.TheVariants as fault;
 ghost use Rattle.parse_expr.specs.Forms.{level_of, ends_at_commas};
 
 use c_tokens::{Punct, Token, TokenKind};
 use c_tree::{Expr, HEIGHT_LIMIT};
-use parse_roles::{ASSIGNMENT, CONDITIONAL, EXPRESSION};
-use parse_terms::expression;
+use parse_expressions::expression;
+use parse_operators::{ASSIGNMENT, CONDITIONAL, EXPRESSION};
 use parse_tokens::{ParseFault, Tokens, TypeNames, kept};
 use std::alloc::Global;
 

@@ -5,15 +5,15 @@ use Rattle.c_tokens.specs.declared.puncts.Punct.TheVariants as p
 use Rattle.c_tree.specs.declared.statements.Stmt.{Stmt}
 use Rattle.c_tree.specs.declared.statements.Stmt.TheVariants as stmt
 use Rattle.c_tree.specs.declared.externals.External.TheVariants as x
-use Rattle.c_grammar.specs.declared.terminals.Terminal.TheVariants as k
-use Rattle.c_grammar.specs.Terminals.{Lexeme, at, place_of}
-use Rattle.c_grammar.specs.File.{type_names}
-use Rattle.c_grammar.specs.Reading.{Read, found, bounded, Specs, expression}
-use Rattle.c_grammar.specs.ReadingDeclarators.{Named, declarator}
-use Rattle.c_grammar.specs.ReadingStatements.{NamedInits, initialiser, items, statement}
-use Rattle.c_grammar.specs.ReadingFile.{NamedExternal, as_external, declaration, declared, body, body_or}
-use Rattle.parse_inits.specs.Readers.{init_declarators_from, locals}
-use Rattle.parse_inits.proofs.InitDeclarators.{from_first}
+use Rattle.parse_meaning.specs.declared.terminals.Terminal.TheVariants as k
+use Rattle.parse_meaning.specs.Terminals.{Lexeme, at, place_of}
+use Rattle.parse_meaning.specs.File.{type_names}
+use Rattle.parse_meaning.specs.Reading.{Read, found, bounded, Specs, expression}
+use Rattle.parse_meaning.specs.ReadingDeclarators.{Named, declarator}
+use Rattle.parse_meaning.specs.ReadingStatements.{NamedInits, initialiser, items, statement}
+use Rattle.parse_meaning.specs.ReadingFile.{NamedExternal, as_external, declaration, declared, body, body_or}
+use Rattle.parse_initialisers.specs.Readers.{init_declarators_from, locals}
+use Rattle.parse_initialisers.proofs.InitDeclarators.{from_first}
 use Rattle.parse_externals.specs.Externals.{brace_at, declared_from}
 
 module _ (n : ℕ) (place : Place) (xs : Read Specs) (t : List Lexeme) where

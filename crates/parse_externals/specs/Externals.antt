@@ -3,16 +3,16 @@ use Rattle.std.specs.Prelude.{ℕ, suc, max, List, ◌∷◌, Option, Bool, true
 use Rattle.fc_base.specs.declared.refusals.Place.{Place}
 use Rattle.c_tokens.specs.declared.puncts.Punct.TheVariants as p
 use Rattle.c_tree.specs.declared.externals.External.TheVariants as x
-use Rattle.c_grammar.specs.declared.terminals.Terminal.TheVariants as k
-use Rattle.c_grammar.specs.Terminals.{Lexeme, at}
-use Rattle.c_grammar.specs.File.{type_names}
-use Rattle.c_grammar.specs.Reading.{Read, ◌>>=◌, found, bounded, Specs}
-use Rattle.c_grammar.specs.ReadingDeclarators as g
-use Rattle.c_grammar.specs.ReadingDeclarators.{declarator}
-use Rattle.c_grammar.specs.ReadingStatements.{initialiser}
-use Rattle.c_grammar.specs.ReadingFile as r
-use Rattle.c_grammar.specs.ReadingFile.{as_external}
-use Rattle.parse_inits.specs.Readers.{init_declarators_from}
+use Rattle.parse_meaning.specs.declared.terminals.Terminal.TheVariants as k
+use Rattle.parse_meaning.specs.Terminals.{Lexeme, at}
+use Rattle.parse_meaning.specs.File.{type_names}
+use Rattle.parse_meaning.specs.Reading.{Read, ◌>>=◌, found, bounded, Specs}
+use Rattle.parse_meaning.specs.ReadingDeclarators as g
+use Rattle.parse_meaning.specs.ReadingDeclarators.{declarator}
+use Rattle.parse_meaning.specs.ReadingStatements.{initialiser}
+use Rattle.parse_meaning.specs.ReadingFile as r
+use Rattle.parse_meaning.specs.ReadingFile.{as_external}
+use Rattle.parse_initialisers.specs.Readers.{init_declarators_from}
 use Rattle.parse_externals.specs.declared.externals.NamedExternal.{NamedExternal}
 
 abbrev pub external_of : NamedExternal → r.NamedExternal

@@ -1,27 +1,27 @@
 //! External declarations (C11 6.9).
 
 ghost use Rattle.std.specs.Prelude.{◌≡◌, ◌<◌, ◌≤◌, ◌+◌, ◌*◌, ◌^◌, suc, max, [], List, map, IfOk, IfErr};
-ghost use Rattle.c_grammar.specs.Terminals.{Lexeme, header_types};
-ghost use Rattle.c_grammar.specs.File.{type_names};
-ghost use Rattle.c_grammar.specs.Reading.{bounded, found};
-ghost use Rattle.c_grammar.specs.ReadingFile as spec;
+ghost use Rattle.parse_meaning.specs.Terminals.{Lexeme, header_types};
+ghost use Rattle.parse_meaning.specs.File.{type_names};
+ghost use Rattle.parse_meaning.specs.Reading.{bounded, found};
+ghost use Rattle.parse_meaning.specs.ReadingFile as spec;
 ghost use Rattle.parse_tokens.specs.Gives.{GivesAs};
 ghost use Rattle.parse_tokens.specs.declared.faults.ParseFault.TheVariants as fault;
-ghost use Rattle.parse_parts.specs.Counts.{specs_of, tally_of};
+ghost use Rattle.parse_leaves.specs.Counts.{specs_of, tally_of};
 ghost use Rattle.parse_declarators.specs.Named.{named_of};
-ghost use Rattle.parse_inits.specs.Declarations.{declared_of};
+ghost use Rattle.parse_initialisers.specs.Declarations.{declared_of};
 ghost use Rattle.parse_externals.specs.Externals.{brace_at, declared_from, external_of};
 
-use c_grammar::Terminal;
 use c_tokens::{HeaderId, Punct, Token, TokenKind};
 use c_tree::{Declarator, External, InitDeclarator, Stmt};
 use fc_base::{NoMemory, Place, Text, both};
-use parse_bodies::outer_specs;
+use parse_aggregates::outer_specs;
 use parse_declarators::{Named, declarator};
-use parse_inits::{Declared, NamedInits, init_declarators};
-use parse_parts::{SpecList, Tally};
+use parse_initialisers::{Declared, NamedInits, init_declarators};
+use parse_leaves::{SpecList, Tally};
+use parse_meaning::Terminal;
 use parse_statements::block_items;
-use parse_tokens::{ParseFault, Tall, Tokens, kept};
+use parse_tokens::{ParseFault, Tokens, WithHeight, kept};
 use sqlite_items::Items;
 use std::alloc::Global;
 
@@ -59,11 +59,11 @@ fn copies(alloc: Global, texts: &[&str]) -> Result<Items<Text>, NoMemory>
 }
 
 /// The inclusion of a header that the token is.
-fn header(alloc: Global, token: &Token) -> Result<Tall<NamedExternal>, ParseFault>
+fn header(alloc: Global, token: &Token) -> Result<WithHeight<NamedExternal>, ParseFault>
     ensures { (t : List Lexeme) → GivesAs external_of (spec.header_read token.now.kind token.now.place t) result t }
 {
     match &token.kind {
-        TokenKind::Header(id) => Ok(Tall {
+        TokenKind::Header(id) => Ok(WithHeight {
             tree: NamedExternal {
                 tree: External::Header {
                     id: *id,
@@ -106,15 +106,15 @@ fn type_names(
 
 /// The declaration with the names, if its tree is not too high.
 fn within(
-    declaration: Tall<External>,
+    declaration: WithHeight<External>,
     names: Items<Text>,
     depth: usize,
-) -> Result<Tall<NamedExternal>, ParseFault>
+) -> Result<WithHeight<NamedExternal>, ParseFault>
     requires { depth < 1000 }
     ensures { (t : List Lexeme) → GivesAs external_of (bounded (suc depth) (found (spec.as_external declaration.tree names) declaration.height t)) result t }
 {
     let is_low = declaration.height <= depth + 1;
-    let named = Tall {
+    let named = WithHeight {
         tree: NamedExternal {
             tree: declaration.tree,
             names,
@@ -126,15 +126,15 @@ fn within(
 
 /// A declaration of its parts (C11 6.7).
 fn declaration_of(
-    specs: Tall<SpecList>,
-    declarators: Tall<Items<InitDeclarator>>,
+    specs: WithHeight<SpecList>,
+    declarators: WithHeight<Items<InitDeclarator>>,
     place: Place,
-) -> Tall<External>
+) -> WithHeight<External>
     requires specs { specs.height + 1 < 2 ^ 64 }
     requires declarators { declarators.height + 1 < 2 ^ 64 }
     ensures { result ≡ record { tree = External.Declaration specs.tree.specs declarators.tree place; height = suc (max specs.height declarators.height) } }
 {
-    Tall {
+    WithHeight {
         height: specs.height.max(declarators.height) + 1,
         tree: External::Declaration {
             specs: specs.tree.specs,
@@ -149,21 +149,21 @@ fn declared<'a>(
     alloc: Global,
     tokens: &mut Tokens<'a>,
     depth: usize,
-    specs: Tall<SpecList>,
-    first: Tall<Named<'a>>,
+    specs: WithHeight<SpecList>,
+    first: WithHeight<Named<'a>>,
     place: Place,
     turns: usize,
-) -> Result<Tall<NamedExternal>, ParseFault>
+) -> Result<WithHeight<NamedExternal>, ParseFault>
     requires few { depth < 999 }
     requires specs_low { specs.height ≤ depth + 2 ^ 63 }
     requires first_low { first.height ≤ depth + 2 ^ 63 }
     ensures { GivesAs external_of (declared_from depth place (specs_of specs.tree) specs.height turns (named_of first.entry.tree) first.entry.height tokens.old) result tokens.new }
 {
     let inits = init_declarators(alloc, tokens, depth, first, turns);
-    let (specs, Tall { tree, height }) = both(specs, inits)?;
+    let (specs, WithHeight { tree, height }) = both(specs, inits)?;
     let NamedInits { trees, declared } = tree;
     let names = type_names(alloc, specs.tree.tally, declared.as_slice());
-    let declarators = Tall {
+    let declarators = WithHeight {
         tree: trees,
         height,
     };
@@ -174,18 +174,18 @@ fn declared<'a>(
 
 /// A function of its parts (C11 6.9.1).
 fn function_of(
-    specs: Tall<SpecList>,
-    declarator: Tall<Declarator>,
-    items: Tall<Items<Stmt>>,
+    specs: WithHeight<SpecList>,
+    declarator: WithHeight<Declarator>,
+    items: WithHeight<Items<Stmt>>,
     place: Place,
     start: Place,
-) -> Tall<External>
+) -> WithHeight<External>
     requires specs { specs.height + 2 < 2 ^ 64 }
     requires declarator { declarator.height + 2 < 2 ^ 64 }
     requires items { items.height + 2 < 2 ^ 64 }
     ensures { result ≡ record { tree = External.Function specs.tree.specs declarator.tree (Stmt.Block items.tree start) place; height = suc (max specs.height (max declarator.height (suc items.height))) } }
 {
-    Tall {
+    WithHeight {
         height: specs.height.max(declarator.height.max(items.height + 1)) + 1,
         tree: External::Function {
             specs: specs.tree.specs,
@@ -204,11 +204,11 @@ fn function<'a>(
     alloc: Global,
     tokens: &mut Tokens<'a>,
     depth: usize,
-    specs: Tall<SpecList>,
-    first: Tall<Named<'a>>,
+    specs: WithHeight<SpecList>,
+    first: WithHeight<Named<'a>>,
     place: Place,
     start: Place,
-) -> Result<Tall<NamedExternal>, ParseFault>
+) -> Result<WithHeight<NamedExternal>, ParseFault>
     requires few { depth < 999 }
     requires specs_low { specs.height ≤ depth + 2 ^ 63 }
     requires first_low { first.height ≤ depth + 2 ^ 63 }
@@ -223,7 +223,7 @@ fn function<'a>(
         nearest,
     } = first.tree;
     let names = type_names(alloc, specs.tree.tally, &[Declared { name, nearest }]);
-    let declarator = Tall {
+    let declarator = WithHeight {
         tree,
         height: first.height,
     };
@@ -250,9 +250,9 @@ fn declaration(
     alloc: Global,
     tokens: &mut Tokens<'_>,
     depth: usize,
-    specs: Tall<SpecList>,
+    specs: WithHeight<SpecList>,
     place: Place,
-) -> Result<Tall<NamedExternal>, ParseFault>
+) -> Result<WithHeight<NamedExternal>, ParseFault>
     requires few { depth < 999 }
     requires specs_low { specs.height ≤ depth + 2 ^ 63 }
     ensures { GivesAs external_of (spec.declaration depth place (found (specs_of specs.tree) specs.height tokens.old) tokens.old) result tokens.new }
@@ -272,14 +272,14 @@ fn declaration(
 fn undeclared(
     alloc: Global,
     depth: usize,
-    specs: Tall<SpecList>,
+    specs: WithHeight<SpecList>,
     place: Place,
-) -> Result<Tall<NamedExternal>, ParseFault>
+) -> Result<WithHeight<NamedExternal>, ParseFault>
     requires few { depth < 999 }
     requires specs_low { specs.height ≤ depth + 2 ^ 63 }
     ensures { (t : List Lexeme) → GivesAs external_of (bounded (suc depth) (found (spec.as_external (External.Declaration specs.tree.specs [] place) []) (suc specs.height) t)) result t }
 {
-    let declaration = Tall {
+    let declaration = WithHeight {
         tree: External::Declaration {
             specs: specs.tree.specs,
             declarators: Items::new(alloc),
@@ -290,12 +290,12 @@ fn undeclared(
     within(declaration, Items::new(alloc), depth)
 }
 
-#[tactic(auto, unfolding(c_grammar::specs::ReadingFile::specified))]
+#[tactic(auto, unfolding(parse_meaning::specs::ReadingFile::specified))]
 fn specified(
     alloc: Global,
     tokens: &mut Tokens<'_>,
     depth: usize,
-) -> Result<Tall<NamedExternal>, ParseFault>
+) -> Result<WithHeight<NamedExternal>, ParseFault>
     requires { depth < 999 }
     ensures { GivesAs external_of (spec.specified depth tokens.old) result tokens.new }
 {
@@ -315,7 +315,7 @@ pub fn external(
     alloc: Global,
     tokens: &mut Tokens<'_>,
     depth: usize,
-) -> Result<Tall<NamedExternal>, ParseFault>
+) -> Result<WithHeight<NamedExternal>, ParseFault>
     requires { depth < 999 }
     ensures { GivesAs external_of (spec.external depth tokens.old) result tokens.new }
 {

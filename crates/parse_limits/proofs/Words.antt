@@ -3,7 +3,7 @@ use Rattle.std.proofs.Common.{◌≡◌, ℕ, ◌≤◌, List, [], ◌∷◌, le
 use Rattle.std.specs.Borrow.{Bor}
 use Rattle.std.specs.List.{list_any}
 use Rattle.std.specs.Str.{bytes_eq}
-use Rattle.c_grammar.specs.Terminals.{has}
+use Rattle.parse_meaning.specs.Terminals.{has}
 
 -- what holds of each name with that first byte holds of this one
 pub by_first : (words : List (Bor (List ℕ))) (all : List (List ℕ)) (name : List ℕ) (other : ℕ) → 1 ≤ length name →

@@ -1,5 +1,5 @@
 -- How a token changes the number of open brackets, as the code says it.
-use Rattle.c_grammar.specs.File.{Bracket, opens, closes, neither}
+use Rattle.parse_meaning.specs.File.{Bracket, opens, closes, neither}
 use Rattle.parse_limits.specs.declared.limits.Change.{Change}
 use Rattle.parse_limits.specs.declared.limits.Change.TheVariants as change
 

@@ -3,8 +3,8 @@
 ghost use Rattle.std.specs.Prelude.{◌≡◌, ℕ, List, ◌∷◌};
 ghost use Rattle.std.specs.List.{list_any};
 ghost use Rattle.std.specs.Str.{bytes_eq};
-ghost use Rattle.c_grammar.specs.Terminals.{has, left_out_keywords};
-ghost use Rattle.c_grammar.specs.File.{bracket, first_deep, first_left_out, is_left_out};
+ghost use Rattle.parse_meaning.specs.Terminals.{has, left_out_keywords};
+ghost use Rattle.parse_meaning.specs.File.{bracket, first_deep, first_left_out, is_left_out};
 ghost use Rattle.parse_limits.specs.Brackets.{bracket_of};
 
 use c_tokens::{Punct, Token, TokenKind};

@@ -4,24 +4,24 @@ use Rattle.std.specs.Prelude.{Result, Ok, Err}
 use Rattle.std.specs.Result.{IsErrAnd}
 use Rattle.c_tokens.specs.declared.puncts.Punct.TheVariants as p
 use Rattle.c_tree.specs.declared.statements.Stmt.{Stmt}
-use Rattle.c_grammar.specs.declared.terminals.Keyword.TheVariants as w
-use Rattle.c_grammar.specs.declared.terminals.Terminal.TheVariants as k
-use Rattle.c_grammar.specs.Terminals.{Lexeme, at}
-use Rattle.c_grammar.specs.Reading.{Read, ◌>>=◌, found, prepended, expression}
-use Rattle.c_grammar.specs.ReadingStatements.{items, items_by, labelled, labelled_by, with_stmt, statement, cases}
-use Rattle.parse_ends.specs.Ends.{body_end_at}
+use Rattle.parse_meaning.specs.declared.terminals.Keyword.TheVariants as w
+use Rattle.parse_meaning.specs.declared.terminals.Terminal.TheVariants as k
+use Rattle.parse_meaning.specs.Terminals.{Lexeme, at}
+use Rattle.parse_meaning.specs.Reading.{Read, ◌>>=◌, found, prepended, expression}
+use Rattle.parse_meaning.specs.ReadingStatements.{items, items_by, labelled, labelled_by, with_stmt, statement, cases}
+use Rattle.parse_lists.specs.Ends.{body_end_at}
 use Rattle.parse_statements.specs.declared.statements.Beside.{Beside}
 use Rattle.parse_statements.specs.declared.statements.Beside.TheVariants as beside
 use Rattle.parse_statements.specs.Lists.{item_of, stmts_of, begins_cases}
-use Rattle.parse_inits.specs.Readers.{locals}
+use Rattle.parse_initialisers.specs.Readers.{locals}
 use Rattle.parse_tokens.specs.Gives.{Gives}
 use Rattle.parse_tokens.specs.declared.faults.ParseFault.{ParseFault}
 use Rattle.parse_tokens.specs.declared.faults.ParseFault.TheVariants as fault
-use Rattle.parse_tokens.specs.declared.faults.Tall.{Tall}
+use Rattle.parse_tokens.specs.declared.faults.WithHeight.{WithHeight}
 use Rattle.parse_tokens.proofs.Turns.{prepended-prepended, prepended_last}
 
 -- what `?` returns
-pub err_gives : {A : Type 0} (read : Option (Read A)) (r : Result (Tall A) ParseFault) (new : List Lexeme) (e : ParseFault) →
+pub err_gives : {A : Type 0} (read : Option (Read A)) (r : Result (WithHeight A) ParseFault) (new : List Lexeme) (e : ParseFault) →
     IsErrAnd r (λ f. e ≡ f) → (e ≢ fault.NoMemory → read ≡ None) → Gives read r new
 err_gives read (Ok x) new e same none = absurd same
 err_gives read (Err f) new e same none = λ other. none (λ is. other (sym same ∙ is))

@@ -1,9 +1,9 @@
 -- The reading function of statements at a depth that code counts down.
 use Rattle.std.proofs.Common.{◌≡◌, ℕ, zero, suc, ◌-◌, ◌<◌, List, None, refl, ap, arith}
-use Rattle.c_grammar.specs.Terminals.{Lexeme}
-use Rattle.c_grammar.specs.Reading.{expression}
-use Rattle.c_grammar.specs.ReadingStatements.{statement, statement_by}
-use Rattle.parse_inits.specs.Readers.{locals}
+use Rattle.parse_meaning.specs.Terminals.{Lexeme}
+use Rattle.parse_meaning.specs.Reading.{expression}
+use Rattle.parse_meaning.specs.ReadingStatements.{statement, statement_by}
+use Rattle.parse_initialisers.specs.Readers.{locals}
 
 pub statement-zero : (depth : ℕ) (s : List Lexeme) → depth ≡ 0 → statement depth s ≡ None
 unfolding statement

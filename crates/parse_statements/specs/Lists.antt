@@ -3,16 +3,16 @@ use Rattle.std.specs.Prelude.{ℕ, List, ◌∷◌, Option, Some, None, Bool, tr
 use Rattle.c_tokens.specs.declared.puncts.Punct.TheVariants as p
 use Rattle.c_tree.specs.declared.nodes.Expr.{Expr}
 use Rattle.c_tree.specs.declared.statements.Stmt.{Stmt}
-use Rattle.c_grammar.specs.declared.terminals.Keyword.TheVariants as w
-use Rattle.c_grammar.specs.declared.terminals.Terminal.TheVariants as k
-use Rattle.c_grammar.specs.Terminals.{Lexeme, at}
-use Rattle.c_grammar.specs.Reading.{Read, ◌>>=◌, begins_spec, expression, after_right_paren}
-use Rattle.c_grammar.specs.ReadingStatements.{after_semicolon, after_left_brace, after_while, statement, declared_item, label, begins_label, items, labelled, cases, condition}
+use Rattle.parse_meaning.specs.declared.terminals.Keyword.TheVariants as w
+use Rattle.parse_meaning.specs.declared.terminals.Terminal.TheVariants as k
+use Rattle.parse_meaning.specs.Terminals.{Lexeme, at}
+use Rattle.parse_meaning.specs.Reading.{Read, ◌>>=◌, begins_spec, expression, after_right_paren}
+use Rattle.parse_meaning.specs.ReadingStatements.{after_semicolon, after_left_brace, after_while, statement, declared_item, label, begins_label, items, labelled, cases, condition}
 use Rattle.parse_statements.specs.declared.statements.Beside.{Beside}
 use Rattle.parse_statements.specs.declared.statements.Beside.TheVariants as beside
 use Rattle.parse_statements.specs.declared.optional.End.{End}
 use Rattle.parse_statements.specs.declared.optional.End.TheVariants as end
-use Rattle.parse_inits.specs.Readers.{locals}
+use Rattle.parse_initialisers.specs.Readers.{locals}
 
 abbrev pub after_end : End → List Lexeme → Option (List Lexeme)
 after_end end.Semicolon s = after_semicolon s

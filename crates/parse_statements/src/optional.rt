@@ -1,18 +1,18 @@
 //! Expressions that may be left out.
 
 ghost use Rattle.std.specs.Prelude.{◌≡◌, ◌<◌, ◌≤◌, IfOk};
-ghost use Rattle.c_grammar.specs.Reading.{expression};
-ghost use Rattle.c_grammar.specs.ReadingStatements as spec;
+ghost use Rattle.parse_meaning.specs.Reading.{expression};
+ghost use Rattle.parse_meaning.specs.ReadingStatements as spec;
 ghost use Rattle.parse_tokens.specs.Endings as endings;
 ghost use Rattle.parse_tokens.specs.Gives.{Gives};
 ghost use Rattle.parse_statements.specs.Lists.{after_end, taken};
 
-use c_grammar::Terminal;
 use c_tokens::Punct;
 use c_tree::Expr;
-use parse_roles::EXPRESSION;
-use parse_terms::expression;
-use parse_tokens::{ParseFault, Tall, Tokens, before_right_paren, before_semicolon};
+use parse_expressions::expression;
+use parse_meaning::Terminal;
+use parse_operators::EXPRESSION;
+use parse_tokens::{ParseFault, Tokens, WithHeight, before_right_paren, before_semicolon};
 use std::alloc::Global;
 
 /// What stands behind an expression that may be left out.
@@ -24,7 +24,11 @@ pub enum End {
 
 impl End {
     /// The part, if the token comes next.
-    fn behind<T: Drop>(self, tokens: &mut Tokens<'_>, part: Tall<T>) -> Result<Tall<T>, ParseFault>
+    fn behind<T: Drop>(
+        self,
+        tokens: &mut Tokens<'_>,
+        part: WithHeight<T>,
+    ) -> Result<WithHeight<T>, ParseFault>
         ensures reads { Gives (endings.ended (after_end self) part.tree part.height tokens.old) result tokens.new }
         ensures same { IfOk result (λ x. x ≡ part) }
     {
@@ -49,19 +53,19 @@ impl End {
     }
 }
 
-#[tactic(auto, unfolding(c_grammar::specs::ReadingStatements::ended))]
+#[tactic(auto, unfolding(parse_meaning::specs::ReadingStatements::ended))]
 fn ended(
     alloc: Global,
     tokens: &mut Tokens<'_>,
     depth: usize,
     end: End,
-) -> Result<Tall<Option<Expr>>, ParseFault>
+) -> Result<WithHeight<Option<Expr>>, ParseFault>
     requires { depth < 1000 }
     ensures reads { Gives (spec.ended (after_end end) (expression depth) tokens.old) result tokens.new }
     ensures low { IfOk result (λ x. x.height ≤ depth) }
 {
-    let Tall { tree, height } = expression(alloc, tokens, depth, EXPRESSION)?;
-    let found = Tall {
+    let WithHeight { tree, height } = expression(alloc, tokens, depth, EXPRESSION)?;
+    let found = WithHeight {
         tree: Some(tree),
         height,
     };
@@ -74,13 +78,13 @@ pub fn optional(
     tokens: &mut Tokens<'_>,
     depth: usize,
     end: End,
-) -> Result<Tall<Option<Expr>>, ParseFault>
+) -> Result<WithHeight<Option<Expr>>, ParseFault>
     requires { depth < 1000 }
     ensures reads { Gives (spec.optional (after_end end) (expression depth) tokens.old) result tokens.new }
     ensures low { IfOk result (λ x. x.height ≤ depth) }
 {
     if end.eat(tokens) {
-        Ok(Tall {
+        Ok(WithHeight {
             tree: None,
             height: 0,
         })

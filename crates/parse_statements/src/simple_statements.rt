@@ -1,36 +1,38 @@
 //! Statements without statements in them, labels, and the heads of statements (C11 6.8).
 
 ghost use Rattle.std.specs.Prelude.{◌≡◌, ◌<◌, ◌≤◌, ◌+◌, ◌*◌, ◌^◌, IfOk};
-ghost use Rattle.c_grammar.specs.Reading.{expression};
-ghost use Rattle.c_grammar.specs.ReadingStatements as spec;
+ghost use Rattle.parse_meaning.specs.Reading.{expression};
+ghost use Rattle.parse_meaning.specs.ReadingStatements as spec;
 ghost use Rattle.parse_tokens.specs.Gives.{Gives};
 ghost use Rattle.parse_statements.specs.Lists.{do_test_of};
-ghost use Rattle.parse_inits.specs.Readers.{Within, locals};
+ghost use Rattle.parse_initialisers.specs.Readers.{Within, locals};
 
 use crate::optional::{End, optional};
-use c_grammar::{Keyword, Terminal};
 use c_tree::{Expr, ForHead, Stmt};
 use fc_base::Place;
-use parse_inits::local_declaration;
-use parse_roles::{CONDITIONAL, EXPRESSION};
-use parse_terms::expression;
-use parse_tokens::{ParseFault, Tall, Tokens, before_colon, before_right_paren, before_semicolon};
+use parse_expressions::expression;
+use parse_initialisers::local_declaration;
+use parse_meaning::{Keyword, Terminal};
+use parse_operators::{CONDITIONAL, EXPRESSION};
+use parse_tokens::{
+    ParseFault, Tokens, WithHeight, before_colon, before_right_paren, before_semicolon,
+};
 use std::alloc::Global;
 
 /// `case 1:`, behind the word (C11 6.8.1).
-#[tactic(auto, unfolding(c_grammar::specs::ReadingStatements::case_label))]
+#[tactic(auto, unfolding(parse_meaning::specs::ReadingStatements::case_label))]
 fn case_label(
     alloc: Global,
     tokens: &mut Tokens<'_>,
     depth: usize,
     place: Place,
-) -> Result<Tall<Stmt>, ParseFault>
+) -> Result<WithHeight<Stmt>, ParseFault>
     requires { depth < 1000 }
     ensures reads { Gives (spec.case_label (expression depth) (locals depth) (spec.statement depth) place tokens.old) result tokens.new }
     ensures low { IfOk result (λ x. x.height ≤ depth + 1) }
 {
     let value = expression(alloc, tokens, depth, CONDITIONAL)?;
-    let label = Tall {
+    let label = WithHeight {
         tree: Stmt::Case {
             value: value.tree,
             place,
@@ -41,24 +43,28 @@ fn case_label(
 }
 
 /// `default:`, behind the word (C11 6.8.1).
-#[tactic(auto, unfolding(c_grammar::specs::ReadingStatements::default_label))]
+#[tactic(auto, unfolding(parse_meaning::specs::ReadingStatements::default_label))]
 fn default_label(
     tokens: &mut Tokens<'_>,
     depth: usize,
     place: Place,
-) -> Result<Tall<Stmt>, ParseFault>
+) -> Result<WithHeight<Stmt>, ParseFault>
     ensures reads { Gives (spec.default_label (expression depth) (locals depth) (spec.statement depth) place tokens.old) result tokens.new }
     ensures low { IfOk result (λ x. x.height ≤ 1) }
 {
     tokens.expect_colon()?;
-    Ok(Tall {
+    Ok(WithHeight {
         tree: Stmt::Default { place },
         height: 1,
     })
 }
 
 /// A label of a switch.
-pub fn label(alloc: Global, tokens: &mut Tokens<'_>, depth: usize) -> Result<Tall<Stmt>, ParseFault>
+pub fn label(
+    alloc: Global,
+    tokens: &mut Tokens<'_>,
+    depth: usize,
+) -> Result<WithHeight<Stmt>, ParseFault>
     requires { depth < 1000 }
     ensures reads { Gives (spec.label (expression depth) (locals depth) (spec.statement depth) tokens.old) result tokens.new }
     ensures low { IfOk result (λ x. x.height ≤ depth + 1) }
@@ -83,19 +89,19 @@ pub fn begins_label(tokens: &Tokens<'_>, depth: usize) -> bool
 }
 
 /// `int a = 1, *b;` among the items of a block.
-#[tactic(auto, unfolding(c_grammar::specs::ReadingStatements::declared_item))]
+#[tactic(auto, unfolding(parse_meaning::specs::ReadingStatements::declared_item))]
 pub fn declared_item(
     alloc: Global,
     tokens: &mut Tokens<'_>,
     depth: usize,
-) -> Result<Tall<Stmt>, ParseFault>
+) -> Result<WithHeight<Stmt>, ParseFault>
     requires { depth < 1000 }
     ensures reads { Gives (spec.declared_item (expression depth) (locals depth) (spec.statement depth) tokens.old) result tokens.new }
     ensures low { IfOk result (λ x. x.height ≤ 2 * depth + 1 + 2 ^ 63) }
 {
     let place = tokens.place();
-    let Tall { tree, height } = local_declaration(alloc, tokens, depth)?;
-    Ok(Tall {
+    let WithHeight { tree, height } = local_declaration(alloc, tokens, depth)?;
+    Ok(WithHeight {
         tree: Stmt::Declare {
             specs: tree.specs,
             declarators: tree.declarators,
@@ -106,19 +112,19 @@ pub fn declared_item(
 }
 
 /// `a;` or `;` (C11 6.8.3).
-#[tactic(auto, unfolding(c_grammar::specs::ReadingStatements::evaluation))]
+#[tactic(auto, unfolding(parse_meaning::specs::ReadingStatements::evaluation))]
 pub fn evaluation(
     alloc: Global,
     tokens: &mut Tokens<'_>,
     depth: usize,
-) -> Result<Tall<Stmt>, ParseFault>
+) -> Result<WithHeight<Stmt>, ParseFault>
     requires { depth < 1000 }
     ensures reads { Gives (spec.evaluation (expression depth) (locals depth) (spec.statement depth) tokens.old) result tokens.new }
     ensures low { IfOk result (λ x. x.height ≤ depth + 1) }
 {
     let place = tokens.place();
     let found = optional(alloc, tokens, depth, End::Semicolon)?;
-    Ok(Tall {
+    Ok(WithHeight {
         tree: Stmt::Expr {
             expr: found.tree,
             place,
@@ -128,12 +134,12 @@ pub fn evaluation(
 }
 
 /// `(a)`, as the head of a statement.
-#[tactic(auto, unfolding(c_grammar::specs::ReadingStatements::condition))]
+#[tactic(auto, unfolding(parse_meaning::specs::ReadingStatements::condition))]
 pub fn condition(
     alloc: Global,
     tokens: &mut Tokens<'_>,
     depth: usize,
-) -> Result<Tall<Expr>, ParseFault>
+) -> Result<WithHeight<Expr>, ParseFault>
     requires { depth < 1000 }
     ensures reads { Gives (spec.condition (expression depth) (locals depth) (spec.statement depth) tokens.old) result tokens.new }
     ensures low { IfOk result (λ x. x.height ≤ depth) }
@@ -148,7 +154,7 @@ pub fn do_test(
     alloc: Global,
     tokens: &mut Tokens<'_>,
     depth: usize,
-) -> Result<Tall<Expr>, ParseFault>
+) -> Result<WithHeight<Expr>, ParseFault>
     requires { depth < 1000 }
     ensures reads { Gives (do_test_of depth tokens.old) result tokens.new }
     ensures low { IfOk result (λ x. x.height ≤ depth) }
@@ -158,18 +164,18 @@ pub fn do_test(
 }
 
 /// A declaration, as the head of a `for`.
-#[tactic(auto, unfolding(c_grammar::specs::ReadingStatements::head_local))]
+#[tactic(auto, unfolding(parse_meaning::specs::ReadingStatements::head_local))]
 fn head_local(
     alloc: Global,
     tokens: &mut Tokens<'_>,
     depth: usize,
-) -> Result<Tall<ForHead>, ParseFault>
+) -> Result<WithHeight<ForHead>, ParseFault>
     requires { depth < 1000 }
     ensures reads { Gives (spec.head_local (expression depth) (locals depth) (spec.statement depth) tokens.old) result tokens.new }
     ensures low { Within depth result }
 {
-    let Tall { tree, height } = local_declaration(alloc, tokens, depth)?;
-    Ok(Tall {
+    let WithHeight { tree, height } = local_declaration(alloc, tokens, depth)?;
+    Ok(WithHeight {
         tree: ForHead::Declare {
             specs: tree.specs,
             declarators: tree.declarators,
@@ -179,18 +185,18 @@ fn head_local(
 }
 
 /// An expression or none with its semicolon, as the head of a `for`.
-#[tactic(auto, unfolding(c_grammar::specs::ReadingStatements::head_expr))]
+#[tactic(auto, unfolding(parse_meaning::specs::ReadingStatements::head_expr))]
 fn head_expr(
     alloc: Global,
     tokens: &mut Tokens<'_>,
     depth: usize,
-) -> Result<Tall<ForHead>, ParseFault>
+) -> Result<WithHeight<ForHead>, ParseFault>
     requires { depth < 1000 }
     ensures reads { Gives (spec.head_expr (expression depth) (locals depth) (spec.statement depth) tokens.old) result tokens.new }
     ensures low { Within depth result }
 {
     let found = optional(alloc, tokens, depth, End::Semicolon)?;
-    Ok(Tall {
+    Ok(WithHeight {
         tree: ForHead::Expr(found.tree),
         height: found.height,
     })
@@ -201,7 +207,7 @@ pub fn for_head(
     alloc: Global,
     tokens: &mut Tokens<'_>,
     depth: usize,
-) -> Result<Tall<ForHead>, ParseFault>
+) -> Result<WithHeight<ForHead>, ParseFault>
     requires { depth < 1000 }
     ensures reads { Gives (spec.for_head (expression depth) (locals depth) (spec.statement depth) tokens.old) result tokens.new }
     ensures low { Within depth result }
@@ -214,28 +220,32 @@ pub fn for_head(
 }
 
 /// A statement of one word and a semicolon, behind the word (C11 6.8.6).
-#[tactic(auto, unfolding(c_grammar::specs::ReadingStatements::jump))]
-pub fn jump(tokens: &mut Tokens<'_>, depth: usize, tree: Stmt) -> Result<Tall<Stmt>, ParseFault>
+#[tactic(auto, unfolding(parse_meaning::specs::ReadingStatements::jump))]
+pub fn jump(
+    tokens: &mut Tokens<'_>,
+    depth: usize,
+    tree: Stmt,
+) -> Result<WithHeight<Stmt>, ParseFault>
     ensures reads { Gives (spec.jump (expression depth) (locals depth) (spec.statement depth) tree tokens.old) result tokens.new }
     ensures low { IfOk result (λ x. x.height ≤ 1) }
 {
-    before_semicolon(tokens, Tall { tree, height: 1 })
+    before_semicolon(tokens, WithHeight { tree, height: 1 })
 }
 
 /// `return a;` or `return;`, behind the word (C11 6.8.6.4).
-#[tactic(auto, unfolding(c_grammar::specs::ReadingStatements::returned))]
+#[tactic(auto, unfolding(parse_meaning::specs::ReadingStatements::returned))]
 pub fn returned(
     alloc: Global,
     tokens: &mut Tokens<'_>,
     depth: usize,
     place: Place,
-) -> Result<Tall<Stmt>, ParseFault>
+) -> Result<WithHeight<Stmt>, ParseFault>
     requires { depth < 1000 }
     ensures reads { Gives (spec.returned (expression depth) (locals depth) (spec.statement depth) place tokens.old) result tokens.new }
     ensures low { IfOk result (λ x. x.height ≤ depth + 1) }
 {
     let found = optional(alloc, tokens, depth, End::Semicolon)?;
-    Ok(Tall {
+    Ok(WithHeight {
         tree: Stmt::Return {
             value: found.tree,
             place,

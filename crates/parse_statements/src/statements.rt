@@ -2,25 +2,25 @@
 
 ghost use Rattle.std.specs.Prelude.{◌≡◌, ◌<◌, ◌≤◌, ◌+◌, ◌*◌, ◌^◌, ◌∷◌, List, length, IfOk};
 ghost use Rattle.c_tokens.specs.declared.tokens.Token.{Token};
-ghost use Rattle.c_grammar.specs.declared.terminals.Terminal.TheVariants as k;
-ghost use Rattle.c_grammar.specs.Terminals.{Lexeme, at};
-ghost use Rattle.c_grammar.specs.Reading.{expression, prepended};
-ghost use Rattle.c_grammar.specs.ReadingStatements as spec;
+ghost use Rattle.parse_meaning.specs.declared.terminals.Terminal.TheVariants as k;
+ghost use Rattle.parse_meaning.specs.Terminals.{Lexeme, at};
+ghost use Rattle.parse_meaning.specs.Reading.{expression, prepended};
+ghost use Rattle.parse_meaning.specs.ReadingStatements as spec;
 ghost use Rattle.parse_tokens.specs.Gives.{Gives};
 ghost use Rattle.parse_statements.specs.Lists.{item_of, stmts_of, begins_cases, braced_cases_of};
-ghost use Rattle.parse_inits.specs.Nests.{Nests};
-ghost use Rattle.parse_inits.specs.Readers.{Within, locals};
+ghost use Rattle.parse_initialisers.specs.Nests.{Nests};
+ghost use Rattle.parse_initialisers.specs.Readers.{Within, locals};
 
 use crate::optional::{End, optional};
 use crate::simple_statements::{
     begins_label, condition, declared_item, do_test, evaluation, for_head, jump, label, returned,
 };
-use c_grammar::{Keyword, Terminal};
 use c_tokens::Punct;
 use c_tree::{Expr, Stmt};
 use fc_base::{Place, both};
-use parse_ends::take_body_end;
-use parse_tokens::{ParseFault, Tall, Tokens, before_semicolon};
+use parse_lists::take_body_end;
+use parse_meaning::{Keyword, Terminal};
+use parse_tokens::{ParseFault, Tokens, WithHeight, before_semicolon};
 use sqlite_items::{Boxed, Items};
 use std::alloc::Global;
 
@@ -49,8 +49,8 @@ fn begins_cases(tokens: &Tokens<'_>) -> bool
     )
 }
 
-impl<F: Fn(Global, &mut Tokens<'_>, usize) -> Result<Tall<Stmt>, ParseFault>> Statements<F> {
-    fn sub(&self, tokens: &mut Tokens<'_>) -> Result<Tall<Stmt>, ParseFault>
+impl<F: Fn(Global, &mut Tokens<'_>, usize) -> Result<WithHeight<Stmt>, ParseFault>> Statements<F> {
+    fn sub(&self, tokens: &mut Tokens<'_>) -> Result<WithHeight<Stmt>, ParseFault>
         requires { Nests spec.statement self.now.depth (F.pre self.now.deep) (F.post self.now.deep) }
         ensures reads { Gives (spec.statement self.now.depth tokens.old) result tokens.new }
         ensures low { Within self.now.depth result }
@@ -60,20 +60,20 @@ impl<F: Fn(Global, &mut Tokens<'_>, usize) -> Result<Tall<Stmt>, ParseFault>> St
     }
 
     /// A statement that is a part of another one.
-    fn part(&self, tokens: &mut Tokens<'_>) -> Result<Tall<Boxed<Stmt>>, ParseFault>
+    fn part(&self, tokens: &mut Tokens<'_>) -> Result<WithHeight<Boxed<Stmt>>, ParseFault>
         requires { Nests spec.statement self.now.depth (F.pre self.now.deep) (F.post self.now.deep) }
         ensures reads { Gives (spec.statement self.now.depth tokens.old) result tokens.new }
         ensures low { Within self.now.depth result }
     {
-        let Tall { tree, height } = self.sub(tokens)?;
-        Ok(Tall {
+        let WithHeight { tree, height } = self.sub(tokens)?;
+        Ok(WithHeight {
             tree: Boxed::new(self.alloc, tree)?,
             height,
         })
     }
 
     /// One of what stands between braces.
-    fn item(&self, tokens: &mut Tokens<'_>, beside: Beside) -> Result<Tall<Stmt>, ParseFault>
+    fn item(&self, tokens: &mut Tokens<'_>, beside: Beside) -> Result<WithHeight<Stmt>, ParseFault>
         requires { Nests spec.statement self.now.depth (F.pre self.now.deep) (F.post self.now.deep) }
         ensures reads { Gives (item_of self.now.depth beside tokens.old) result tokens.new }
         ensures low { IfOk result (λ x. x.height ≤ 2 * self.now.depth + 1 + 2 ^ 63) }
@@ -95,21 +95,21 @@ impl<F: Fn(Global, &mut Tokens<'_>, usize) -> Result<Tall<Stmt>, ParseFault>> St
         &self,
         tokens: &mut Tokens<'_>,
         beside: Beside,
-        first: Tall<Items<Stmt>>,
+        first: WithHeight<Items<Stmt>>,
         turns: usize,
-    ) -> Result<Tall<Items<Stmt>>, ParseFault>
+    ) -> Result<WithHeight<Items<Stmt>>, ParseFault>
         requires nests { Nests spec.statement self.now.depth (F.pre self.now.deep) (F.post self.now.deep) }
         requires low { first.height ≤ 2 * self.now.depth + 1 + 2 ^ 63 }
         ensures reads { Gives (prepended first.tree first.height (stmts_of self.now.depth beside turns tokens.old)) result tokens.new }
         ensures low { IfOk result (λ x. x.height ≤ 2 * self.now.depth + 1 + 2 ^ 63) }
     {
-        let Tall {
+        let WithHeight {
             tree: mut trees,
             mut height,
         } = first;
         for _turn in 0..turns {
             if take_body_end(tokens) {
-                return Ok(Tall {
+                return Ok(WithHeight {
                     tree: trees,
                     height,
                 });
@@ -119,7 +119,7 @@ impl<F: Fn(Global, &mut Tokens<'_>, usize) -> Result<Tall<Stmt>, ParseFault>> St
             height = height.max(next.height);
         }
         if take_body_end(tokens) {
-            Ok(Tall {
+            Ok(WithHeight {
                 tree: trees,
                 height,
             })
@@ -129,27 +129,31 @@ impl<F: Fn(Global, &mut Tokens<'_>, usize) -> Result<Tall<Stmt>, ParseFault>> St
     }
 
     /// The items of a block, behind its brace (C11 6.8.2).
-    pub fn items(&self, tokens: &mut Tokens<'_>) -> Result<Tall<Items<Stmt>>, ParseFault>
+    pub fn items(&self, tokens: &mut Tokens<'_>) -> Result<WithHeight<Items<Stmt>>, ParseFault>
         requires { Nests spec.statement self.now.depth (F.pre self.now.deep) (F.post self.now.deep) }
         ensures reads { Gives (spec.items (expression self.now.depth) (locals self.now.depth) (spec.statement self.now.depth) (length tokens.old) tokens.old) result tokens.new }
         ensures low { IfOk result (λ x. x.height ≤ 2 * self.now.depth + 1 + 2 ^ 63) }
     {
         let turns = tokens.left();
-        let nothing = Tall {
+        let nothing = WithHeight {
             tree: Items::new(self.alloc),
             height: 0,
         };
         self.braced(tokens, Beside::Declarations, nothing, turns)
     }
 
-    #[tactic(auto, unfolding(c_grammar::specs::ReadingStatements::compound))]
-    fn compound(&self, tokens: &mut Tokens<'_>, place: Place) -> Result<Tall<Stmt>, ParseFault>
+    #[tactic(auto, unfolding(parse_meaning::specs::ReadingStatements::compound))]
+    fn compound(
+        &self,
+        tokens: &mut Tokens<'_>,
+        place: Place,
+    ) -> Result<WithHeight<Stmt>, ParseFault>
         requires { Nests spec.statement self.now.depth (F.pre self.now.deep) (F.post self.now.deep) }
         ensures reads { Gives (spec.compound (expression self.now.depth) (locals self.now.depth) (spec.statement self.now.depth) place tokens.old) result tokens.new }
         ensures low { Within (self.now.depth + 1) result }
     {
         let found = self.items(tokens)?;
-        Ok(Tall {
+        Ok(WithHeight {
             tree: Stmt::Block {
                 items: found.tree,
                 place,
@@ -159,7 +163,7 @@ impl<F: Fn(Global, &mut Tokens<'_>, usize) -> Result<Tall<Stmt>, ParseFault>> St
     }
 
     /// The labels and statements of a switch, behind its brace: the first of them is a label.
-    fn cases(&self, tokens: &mut Tokens<'_>) -> Result<Tall<Items<Stmt>>, ParseFault>
+    fn cases(&self, tokens: &mut Tokens<'_>) -> Result<WithHeight<Items<Stmt>>, ParseFault>
         requires { Nests spec.statement self.now.depth (F.pre self.now.deep) (F.post self.now.deep) }
         ensures reads { Gives (spec.cases (expression self.now.depth) (locals self.now.depth) (spec.statement self.now.depth) tokens.old) result tokens.new }
         ensures low { IfOk result (λ x. x.height ≤ 2 * self.now.depth + 1 + 2 ^ 63) }
@@ -168,7 +172,7 @@ impl<F: Fn(Global, &mut Tokens<'_>, usize) -> Result<Tall<Stmt>, ParseFault>> St
             return Err(ParseFault::NoDerivation);
         }
         let turns = tokens.left() + 1;
-        let nothing = Tall {
+        let nothing = WithHeight {
             tree: Items::new(self.alloc),
             height: 0,
         };
@@ -176,7 +180,7 @@ impl<F: Fn(Global, &mut Tokens<'_>, usize) -> Result<Tall<Stmt>, ParseFault>> St
     }
 
     /// The same, with the brace that begins them.
-    fn braced_cases(&self, tokens: &mut Tokens<'_>) -> Result<Tall<Items<Stmt>>, ParseFault>
+    fn braced_cases(&self, tokens: &mut Tokens<'_>) -> Result<WithHeight<Items<Stmt>>, ParseFault>
         requires { Nests spec.statement self.now.depth (F.pre self.now.deep) (F.post self.now.deep) }
         ensures reads { Gives (braced_cases_of self.now.depth tokens.old) result tokens.new }
         ensures low { IfOk result (λ x. x.height ≤ 2 * self.now.depth + 1 + 2 ^ 63) }
@@ -189,10 +193,10 @@ impl<F: Fn(Global, &mut Tokens<'_>, usize) -> Result<Tall<Stmt>, ParseFault>> St
     fn otherwise(
         &self,
         tokens: &mut Tokens<'_>,
-        test: Tall<Expr>,
-        yes: Tall<Boxed<Stmt>>,
+        test: WithHeight<Expr>,
+        yes: WithHeight<Boxed<Stmt>>,
         place: Place,
-    ) -> Result<Tall<Stmt>, ParseFault>
+    ) -> Result<WithHeight<Stmt>, ParseFault>
         requires nests { Nests spec.statement self.now.depth (F.pre self.now.deep) (F.post self.now.deep) }
         requires test { test.height ≤ self.now.depth }
         requires yes { yes.height ≤ 2 * self.now.depth + 2 ^ 63 }
@@ -204,7 +208,7 @@ impl<F: Fn(Global, &mut Tokens<'_>, usize) -> Result<Tall<Stmt>, ParseFault>> St
                 tokens.next();
                 let no = self.part(tokens);
                 let ((test, yes), no) = both((test, yes), no)?;
-                Ok(Tall {
+                Ok(WithHeight {
                     height: test.height.max(yes.height.max(no.height)) + 1,
                     tree: Stmt::If {
                         test: test.tree,
@@ -214,7 +218,7 @@ impl<F: Fn(Global, &mut Tokens<'_>, usize) -> Result<Tall<Stmt>, ParseFault>> St
                     },
                 })
             }
-            _ => Ok(Tall {
+            _ => Ok(WithHeight {
                 height: test.height.max(yes.height) + 1,
                 tree: Stmt::If {
                     test: test.tree,
@@ -226,8 +230,12 @@ impl<F: Fn(Global, &mut Tokens<'_>, usize) -> Result<Tall<Stmt>, ParseFault>> St
         }
     }
 
-    #[tactic(auto, unfolding(c_grammar::specs::ReadingStatements::if_read))]
-    fn if_statement(&self, tokens: &mut Tokens<'_>, place: Place) -> Result<Tall<Stmt>, ParseFault>
+    #[tactic(auto, unfolding(parse_meaning::specs::ReadingStatements::if_read))]
+    fn if_statement(
+        &self,
+        tokens: &mut Tokens<'_>,
+        place: Place,
+    ) -> Result<WithHeight<Stmt>, ParseFault>
         requires { Nests spec.statement self.now.depth (F.pre self.now.deep) (F.post self.now.deep) }
         ensures reads { Gives (spec.if_read (expression self.now.depth) (locals self.now.depth) (spec.statement self.now.depth) place tokens.old) result tokens.new }
         ensures low { Within (self.now.depth + 1) result }
@@ -239,12 +247,12 @@ impl<F: Fn(Global, &mut Tokens<'_>, usize) -> Result<Tall<Stmt>, ParseFault>> St
     }
 
     /// C11 6.8.4.2
-    #[tactic(auto, unfolding(c_grammar::specs::ReadingStatements::switch_read))]
+    #[tactic(auto, unfolding(parse_meaning::specs::ReadingStatements::switch_read))]
     fn switch_statement(
         &self,
         tokens: &mut Tokens<'_>,
         place: Place,
-    ) -> Result<Tall<Stmt>, ParseFault>
+    ) -> Result<WithHeight<Stmt>, ParseFault>
         requires { Nests spec.statement self.now.depth (F.pre self.now.deep) (F.post self.now.deep) }
         ensures reads { Gives (spec.switch_read (expression self.now.depth) (locals self.now.depth) (spec.statement self.now.depth) place tokens.old) result tokens.new }
         ensures low { Within (self.now.depth + 1) result }
@@ -252,7 +260,7 @@ impl<F: Fn(Global, &mut Tokens<'_>, usize) -> Result<Tall<Stmt>, ParseFault>> St
         let subject = condition(self.alloc, tokens, self.depth)?;
         let found = self.braced_cases(tokens);
         let (subject, found) = both(subject, found)?;
-        Ok(Tall {
+        Ok(WithHeight {
             height: subject.height.max(found.height) + 1,
             tree: Stmt::Switch {
                 subject: subject.tree,
@@ -263,12 +271,12 @@ impl<F: Fn(Global, &mut Tokens<'_>, usize) -> Result<Tall<Stmt>, ParseFault>> St
     }
 
     /// C11 6.8.5
-    #[tactic(auto, unfolding(c_grammar::specs::ReadingStatements::while_read))]
+    #[tactic(auto, unfolding(parse_meaning::specs::ReadingStatements::while_read))]
     fn while_statement(
         &self,
         tokens: &mut Tokens<'_>,
         place: Place,
-    ) -> Result<Tall<Stmt>, ParseFault>
+    ) -> Result<WithHeight<Stmt>, ParseFault>
         requires { Nests spec.statement self.now.depth (F.pre self.now.deep) (F.post self.now.deep) }
         ensures reads { Gives (spec.while_read (expression self.now.depth) (locals self.now.depth) (spec.statement self.now.depth) place tokens.old) result tokens.new }
         ensures low { Within (self.now.depth + 1) result }
@@ -276,7 +284,7 @@ impl<F: Fn(Global, &mut Tokens<'_>, usize) -> Result<Tall<Stmt>, ParseFault>> St
         let test = condition(self.alloc, tokens, self.depth)?;
         let body = self.part(tokens);
         let (test, body) = both(test, body)?;
-        Ok(Tall {
+        Ok(WithHeight {
             height: test.height.max(body.height) + 1,
             tree: Stmt::While {
                 test: test.tree,
@@ -286,8 +294,12 @@ impl<F: Fn(Global, &mut Tokens<'_>, usize) -> Result<Tall<Stmt>, ParseFault>> St
         })
     }
 
-    #[tactic(auto, unfolding(c_grammar::specs::ReadingStatements::do_read))]
-    fn do_statement(&self, tokens: &mut Tokens<'_>, place: Place) -> Result<Tall<Stmt>, ParseFault>
+    #[tactic(auto, unfolding(parse_meaning::specs::ReadingStatements::do_read))]
+    fn do_statement(
+        &self,
+        tokens: &mut Tokens<'_>,
+        place: Place,
+    ) -> Result<WithHeight<Stmt>, ParseFault>
         requires { Nests spec.statement self.now.depth (F.pre self.now.deep) (F.post self.now.deep) }
         ensures reads { Gives (spec.do_read (expression self.now.depth) (locals self.now.depth) (spec.statement self.now.depth) place tokens.old) result tokens.new }
         ensures low { Within (self.now.depth + 1) result }
@@ -295,7 +307,7 @@ impl<F: Fn(Global, &mut Tokens<'_>, usize) -> Result<Tall<Stmt>, ParseFault>> St
         let body = self.part(tokens)?;
         let test = do_test(self.alloc, tokens, self.depth);
         let (body, test) = both(body, test)?;
-        let found = Tall {
+        let found = WithHeight {
             height: body.height.max(test.height) + 1,
             tree: Stmt::Do {
                 body: body.tree,
@@ -306,8 +318,12 @@ impl<F: Fn(Global, &mut Tokens<'_>, usize) -> Result<Tall<Stmt>, ParseFault>> St
         before_semicolon(tokens, found)
     }
 
-    #[tactic(auto, unfolding(c_grammar::specs::ReadingStatements::for_read))]
-    fn for_statement(&self, tokens: &mut Tokens<'_>, place: Place) -> Result<Tall<Stmt>, ParseFault>
+    #[tactic(auto, unfolding(parse_meaning::specs::ReadingStatements::for_read))]
+    fn for_statement(
+        &self,
+        tokens: &mut Tokens<'_>,
+        place: Place,
+    ) -> Result<WithHeight<Stmt>, ParseFault>
         requires { Nests spec.statement self.now.depth (F.pre self.now.deep) (F.post self.now.deep) }
         ensures reads { Gives (spec.for_read (expression self.now.depth) (locals self.now.depth) (spec.statement self.now.depth) place tokens.old) result tokens.new }
         ensures low { Within (self.now.depth + 1) result }
@@ -321,7 +337,7 @@ impl<F: Fn(Global, &mut Tokens<'_>, usize) -> Result<Tall<Stmt>, ParseFault>> St
         let body = self.part(tokens);
         let ((head, test, step), body) = both((head, test, step), body)?;
         let height = test.height.max(step.height.max(body.height));
-        Ok(Tall {
+        Ok(WithHeight {
             height: head.height.max(height) + 1,
             tree: Stmt::For {
                 head: head.tree,
@@ -334,7 +350,7 @@ impl<F: Fn(Global, &mut Tokens<'_>, usize) -> Result<Tall<Stmt>, ParseFault>> St
     }
 
     /// A statement that begins with the word.
-    fn worded(&self, tokens: &mut Tokens<'_>, word: Keyword) -> Result<Tall<Stmt>, ParseFault>
+    fn worded(&self, tokens: &mut Tokens<'_>, word: Keyword) -> Result<WithHeight<Stmt>, ParseFault>
         requires nests { Nests spec.statement self.now.depth (F.pre self.now.deep) (F.post self.now.deep) }
         requires begins { (o : Token) × (t : List Lexeme) × (tokens.old ≡ at (k.Word word) o ∷ t) }
         ensures reads { Gives (spec.statement_by (expression self.now.depth) (locals self.now.depth) (spec.statement self.now.depth) tokens.old) result tokens.new }
@@ -378,7 +394,7 @@ impl<F: Fn(Global, &mut Tokens<'_>, usize) -> Result<Tall<Stmt>, ParseFault>> St
         }
     }
 
-    fn any(&self, tokens: &mut Tokens<'_>) -> Result<Tall<Stmt>, ParseFault>
+    fn any(&self, tokens: &mut Tokens<'_>) -> Result<WithHeight<Stmt>, ParseFault>
         requires { Nests spec.statement self.now.depth (F.pre self.now.deep) (F.post self.now.deep) }
         ensures reads { Gives (spec.statement_by (expression self.now.depth) (locals self.now.depth) (spec.statement self.now.depth) tokens.old) result tokens.new }
         ensures low { Within (self.now.depth + 1) result }
@@ -400,7 +416,7 @@ pub fn statement(
     alloc: Global,
     tokens: &mut Tokens<'_>,
     depth: usize,
-) -> Result<Tall<Stmt>, ParseFault>
+) -> Result<WithHeight<Stmt>, ParseFault>
     requires { depth < 1000 }
     ensures reads { Gives (spec.statement depth tokens.old) result tokens.new }
     ensures low { Within depth result }
@@ -421,7 +437,7 @@ pub fn block_items(
     alloc: Global,
     tokens: &mut Tokens<'_>,
     depth: usize,
-) -> Result<Tall<Items<Stmt>>, ParseFault>
+) -> Result<WithHeight<Items<Stmt>>, ParseFault>
     requires { depth + 1 < 1000 }
     ensures reads { Gives (spec.items (expression depth) (locals depth) (spec.statement depth) (length tokens.old) tokens.old) result tokens.new }
     ensures low { IfOk result (λ x. x.height ≤ 2 * depth + 1 + 2 ^ 63) }

@@ -1,8 +1,8 @@
 -- Looking a keyword up row by row.
 use Rattle.std.proofs.Common.{◌≡◌, ℕ, zero, suc, ◌+◌, ◌<◌, List, [], ◌∷◌, length, get_or, drop, false, refl, sym, ap, ◌∙◌, add-one, arith}
 use Rattle.std.specs.Str.{bytes_eq}
-use Rattle.c_grammar.specs.declared.terminals.Keyword.{Keyword}
-use Rattle.c_grammar.specs.Terminals.{keyword_in}
+use Rattle.parse_meaning.specs.declared.terminals.Keyword.{Keyword}
+use Rattle.parse_meaning.specs.Terminals.{keyword_in}
 use Rattle.parse_tokens.specs.Words.{spelling_of, rows_of}
 
 keyword_next : (words : List Keyword) (name : List ℕ) (i : ℕ) (other : Keyword) → i < length words → bytes_eq (spelling_of (get_or words i other)) name ≡ false →

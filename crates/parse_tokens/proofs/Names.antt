@@ -11,8 +11,8 @@ use Rattle.indexmap.specs.IndexSet.{insert_key}
 use Rattle.c_tokens.specs.declared.tokens.Token.{Token}
 use Rattle.c_tokens.specs.declared.tokens.TokenKind.{TokenKind}
 use Rattle.c_tokens.specs.declared.tokens.TokenKind.TheVariants as kind
-use Rattle.c_grammar.specs.declared.terminals.Keyword.{Keyword}
-use Rattle.c_grammar.specs.Terminals.{has, named, terminal, lexeme}
+use Rattle.parse_meaning.specs.declared.terminals.Keyword.{Keyword}
+use Rattle.parse_meaning.specs.Terminals.{has, named, terminal, lexeme}
 use Rattle.parse_tokens.specs.Names.{with_name}
 
 -- the same names are among both

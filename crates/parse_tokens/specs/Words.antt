@@ -1,7 +1,7 @@
 -- The spellings of keywords, one by one.
 use Rattle.std.specs.Prelude.{ℕ, List, map, codes}
-use Rattle.c_grammar.specs.declared.terminals.Keyword.{Keyword}
-use Rattle.c_grammar.specs.declared.terminals.Keyword.TheVariants as w
+use Rattle.parse_meaning.specs.declared.terminals.Keyword.{Keyword}
+use Rattle.parse_meaning.specs.declared.terminals.Keyword.TheVariants as w
 
 abbrev pub spelling_of : Keyword → List ℕ
 spelling_of w.Attribute = codes "__attribute__"

@@ -1,7 +1,7 @@
 //! Copies of what tokens hold, for trees.
 
 ghost use Rattle.std.specs.Prelude.{◌≡◌, IfOk};
-ghost use Rattle.c_grammar.specs.Terminals.{text_of};
+ghost use Rattle.parse_meaning.specs.Terminals.{text_of};
 
 use c_tokens::{Token, TokenKind};
 use fc_base::{NoMemory, Text};

@@ -48,7 +48,7 @@ impl<T: Drop> From<AllocFailed<T>> for ParseFault {
 
 /// A tree, and how many nodes stand on the longest way from its root to a leaf.
 #[derive(Drop)]
-pub struct Tall<T> {
+pub struct WithHeight<T> {
     pub tree: T,
     pub height: usize,
 }

@@ -14,7 +14,7 @@ pub use copies::{copy_text, text_of};
 pub use endings::{
     before_colon, before_comma, before_right_bracket, before_right_paren, before_semicolon,
 };
-pub use faults::{ParseFault, Tall};
+pub use faults::{ParseFault, WithHeight};
 pub use held::kept;
 pub use terminals::{is_tag, is_word};
 pub use tokens::Tokens;

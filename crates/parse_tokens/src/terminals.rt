@@ -1,10 +1,10 @@
 //! Kinds of terminals.
 
 ghost use Rattle.std.specs.Prelude.{◌≡◌};
-ghost use Rattle.c_grammar.specs.Reading.{is_spec, is_spec_word};
-ghost use Rattle.c_grammar.specs.Terminals.{is_tag, is_word};
+ghost use Rattle.parse_meaning.specs.Reading.{is_spec, is_spec_word};
+ghost use Rattle.parse_meaning.specs.Terminals.{is_tag, is_word};
 
-use c_grammar::{Keyword, Terminal};
+use parse_meaning::{Keyword, Terminal};
 
 /// A tag or a member: a name, which may be that of a type (C11 6.2.3).
 pub fn is_tag(terminal: Terminal) -> bool

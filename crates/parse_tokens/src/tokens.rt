@@ -3,20 +3,20 @@
 ghost use Rattle.std.specs.Prelude.{◌≡◌, Some, None, IsTrue, IsFalse, ◌<◌, ◌^◌, ◌∷◌, [], List, length, map, MatchOption};
 ghost use Rattle.c_tokens.specs.declared.tokens.Token.{Token};
 ghost use Rattle.c_tokens.specs.declared.tokens.TokenKind.TheVariants as kind;
-ghost use Rattle.c_grammar.specs.declared.terminals.Terminal.TheVariants as k;
+ghost use Rattle.parse_meaning.specs.declared.terminals.Terminal.TheVariants as k;
 ghost use Rattle.c_tokens.specs.declared.puncts.Punct.TheVariants as p;
-ghost use Rattle.c_grammar.specs.Terminals.{Lexeme, at, lexeme, terminal, place_of};
-ghost use Rattle.c_grammar.specs.Reading.{begins_spec, after_left_paren, after_right_paren, after_left_bracket, after_right_bracket, after_comma, after_colon};
-ghost use Rattle.c_grammar.specs.ReadingStatements.{after_semicolon, after_left_brace, after_while};
+ghost use Rattle.parse_meaning.specs.Terminals.{Lexeme, at, lexeme, terminal, place_of};
+ghost use Rattle.parse_meaning.specs.Reading.{begins_spec, after_left_paren, after_right_paren, after_left_bracket, after_right_bracket, after_comma, after_colon};
+ghost use Rattle.parse_meaning.specs.ReadingStatements.{after_semicolon, after_left_brace, after_while};
 ghost use Rattle.parse_tokens.specs.Gives.{Passes};
 
 use crate::faults::ParseFault;
 use crate::terminals::is_spec;
 use crate::type_names::TypeNames;
 use crate::words::keyword;
-use c_grammar::{Keyword, Terminal};
 use c_tokens::{Punct, Token, TokenKind};
 use fc_base::Place;
+use parse_meaning::{Keyword, Terminal};
 use std::marker::Model;
 
 /// The tokens that are left to read, where some names are those of types.
@@ -28,7 +28,7 @@ pub struct Tokens<'a> {
 
 impl<'a> Model for Tokens<'a> {
     ghost use Rattle.std.specs.Prelude.{List};
-    ghost use Rattle.c_grammar.specs.Terminals.{Lexeme};
+    ghost use Rattle.parse_meaning.specs.Terminals.{Lexeme};
 
     ghost Value = { List Lexeme };
 

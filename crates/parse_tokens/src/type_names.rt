@@ -1,7 +1,7 @@
 //! The names of types.
 
 ghost use Rattle.std.specs.Prelude.{◌≡◌, List, [], OnOk, OnErr};
-ghost use Rattle.c_grammar.specs.Terminals.{has};
+ghost use Rattle.parse_meaning.specs.Terminals.{has};
 ghost use Rattle.parse_tokens.specs.Names.{with_name};
 
 use fc_base::{NoMemory, Text};

@@ -1,10 +1,10 @@
 //! The spellings of keywords.
 
 ghost use Rattle.std.specs.Prelude.{◌≡◌, ℕ, List, ◌∷◌};
-ghost use Rattle.c_grammar.specs.Terminals.{keyword_in, keywords};
+ghost use Rattle.parse_meaning.specs.Terminals.{keyword_in, keywords};
 ghost use Rattle.parse_tokens.specs.Words.{spelling_of, rows_of};
 
-use c_grammar::Keyword;
+use parse_meaning::Keyword;
 
 fn spelling(word: Keyword) -> &'static str
     ensures { result.now ≡ spelling_of word }

@@ -1,9 +1,9 @@
 //! Conditions, with the answers that C11 6.6 and the rules of the subset give them, worked out by hand.
 
 use crate::values::assert_same;
-use c_conditions::condition;
 use c_tokens::{NumberKind, Punct, TokenKind};
 use fc_base::{NoMemory, Text};
+use macro_conditions::condition;
 use std::alloc::{AllocError, Global};
 use std::process::Abort;
 use std::test::Fail;

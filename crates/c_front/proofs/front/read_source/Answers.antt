@@ -2,7 +2,7 @@
 use Rattle.std.proofs.Common.{sym}
 use Rattle.std.proofs.lemmas.Result.{err_from_is_err_and}
 use Rattle.c_front.proofs.Phases.{with_form, refused_lexing, refused_expansion, refused_parsing}
-use Rattle.c_forms.proofs.Reading.{form_read}
+use Rattle.fort_forms.proofs.Reading.{form_read}
 use Rattle.c_front.proofs.front.read_source.Goals as goal
 
 pub returns-in_err-lexed-clause-is : goal.returns-in_err-lexed-clause-is

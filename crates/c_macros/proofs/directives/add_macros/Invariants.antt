@@ -1,7 +1,7 @@
 use Rattle.std.proofs.Common.{◌≡◌, reverse, vec_len}
-use Rattle.c_expansion.specs.Moves.{with_definitions}
-use Rattle.c_items.specs.Views.{table}
-use Rattle.c_lines.specs.Lines.{entry_views}
+use Rattle.macro_meaning.specs.Moves.{with_definitions}
+use Rattle.macro_items.specs.Views.{table}
+use Rattle.macro_lines.specs.Lines.{entry_views}
 use Rattle.c_macros.proofs.directives.add_macros.Given as goal
 
 abbrev pub invariant-loop-name : goal.invariant-loop-name

@@ -1,8 +1,8 @@
 use Rattle.std.proofs.Common.{reverse, Ok, sym, refl}
 use Rattle.c_macros.specs.States.{state}
-use Rattle.c_lines.proofs.Fronts.{some_item, no_item}
-use Rattle.c_macros.proofs.Giving.{same_move, gives_nothing, alone, at_word, other_line, where_taken, where_skipped}
-use Rattle.c_items.specs.Views.{table}
+use Rattle.macro_lines.proofs.Fronts.{some_item, no_item}
+use Rattle.c_macros.proofs.DirectiveAnswers.{same_move, gives_nothing, alone, at_word, other_line, where_taken, where_skipped}
+use Rattle.macro_items.specs.Views.{table}
 use Rattle.c_macros.proofs.directives.directive.Goals as goal
 
 pub returns-then-is_empty : goal.returns-then-is_empty

@@ -1,5 +1,5 @@
 use Rattle.std.proofs.lemmas.Result.{err_from_is_err_and}
-use Rattle.c_macros.proofs.Giving.{gives_nothing, gives_one, gives_fault}
+use Rattle.c_macros.proofs.DirectiveAnswers.{gives_nothing, gives_one, gives_fault}
 use Rattle.c_macros.proofs.directives.give.Goals as goal
 
 pub returns-in_err-token : goal.returns-in_err-token

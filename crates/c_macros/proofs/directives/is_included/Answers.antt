@@ -1,5 +1,5 @@
 use Rattle.std.proofs.Common.{sym, ◌∙◌}
-use Rattle.c_expansion.specs.Sameness.{same_header}
+use Rattle.macro_meaning.specs.Sameness.{same_header}
 use Rattle.c_macros.proofs.Included.{header_here, header_later}
 use Rattle.c_macros.proofs.directives.is_included.Goals as goal
 

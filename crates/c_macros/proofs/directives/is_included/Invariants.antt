@@ -1,6 +1,6 @@
 use Rattle.std.proofs.Common.{◌≡◌, drop}
 use Rattle.std.specs.List.{list_any}
-use Rattle.c_expansion.specs.Sameness.{same_header}
+use Rattle.macro_meaning.specs.Sameness.{same_header}
 use Rattle.c_macros.proofs.directives.is_included.Given as goal
 
 abbrev pub invariant-loop-other : goal.invariant-loop-other

@@ -1,9 +1,9 @@
 use Rattle.std.proofs.Common.{Bool, Err, ◌∷◌, reverse, ap, arith}
 use Rattle.std.proofs.lemmas.Result.{err_from_is_err_and}
-use Rattle.c_expansion.specs.Moves.{State, other_if, with_groups}
+use Rattle.macro_meaning.specs.Moves.{State, other_if, with_groups}
 use Rattle.c_macros.specs.States.{state}
-use Rattle.c_macros.proofs.Giving.{refuses_at, same_move, chain, no_condition, no_groups, after_else, after_taken, asks}
-use Rattle.c_items.specs.Views.{table}
+use Rattle.c_macros.proofs.DirectiveAnswers.{refuses_at, same_move, chain, no_condition, no_groups, after_else, after_taken, asks}
+use Rattle.macro_items.specs.Views.{table}
 use Rattle.c_macros.proofs.directives.other_if.Goals as goal
 
 pub returns-in_default : goal.returns-in_default

@@ -1,8 +1,8 @@
 use Rattle.std.proofs.Common.{[], sym}
 use Rattle.std.proofs.lemmas.List.{append-nil}
 use Rattle.c_macros.specs.States.{state}
-use Rattle.c_lines.specs.Comes.{at_once}
-use Rattle.c_macros.proofs.Giving.{skips}
+use Rattle.macro_lines.specs.Comes.{at_once}
+use Rattle.c_macros.proofs.DirectiveAnswers.{skips}
 use Rattle.c_macros.proofs.directives.skipped_directive.Goals as goal
 
 pub returns-in_default : goal.returns-in_default

@@ -1,6 +1,6 @@
 use Rattle.c_macros.specs.States.{state}
-use Rattle.c_macros.proofs.Giving.{refuses_at, unknown}
-use Rattle.c_items.specs.Views.{table}
+use Rattle.c_macros.proofs.DirectiveAnswers.{refuses_at, unknown}
+use Rattle.macro_items.specs.Views.{table}
 use Rattle.c_macros.proofs.directives.taken_directive.Goals as goal
 
 pub returns-in_default : goal.returns-in_default

@@ -1,7 +1,7 @@
-use Rattle.c_expansion.specs.Moves.{opened}
+use Rattle.macro_meaning.specs.Moves.{opened}
 use Rattle.c_macros.specs.States.{state}
-use Rattle.c_macros.proofs.Giving.{chain}
-use Rattle.c_items.specs.Views.{table}
+use Rattle.c_macros.proofs.DirectiveAnswers.{chain}
+use Rattle.macro_items.specs.Views.{table}
 use Rattle.c_macros.proofs.directives.taken_if.Goals as goal
 
 pub returns : goal.returns

@@ -1,7 +1,7 @@
 use Rattle.std.proofs.Common.{length}
-use Rattle.c_expansion.specs.Moves.{start}
-use Rattle.c_expansion.proofs.ExpansionLaws.{only_expanded}
-use Rattle.c_expansion.proofs.OriginLaws.{spelled_answer}
+use Rattle.macro_meaning.specs.Moves.{start}
+use Rattle.macro_meaning.proofs.ExpansionLaws.{only_expanded}
+use Rattle.macro_meaning.proofs.OriginLaws.{spelled_answer}
 use Rattle.c_macros.proofs.expansion.expand.Goals as goal
 
 pub returns-clause-only : goal.returns-clause-only

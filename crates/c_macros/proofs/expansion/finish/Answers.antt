@@ -1,5 +1,5 @@
 use Rattle.std.proofs.Common.{sym}
-use Rattle.c_macros.proofs.Giving.{first_open, none_open, some_group, no_group}
+use Rattle.c_macros.proofs.DirectiveAnswers.{first_open, none_open, some_group, no_group}
 use Rattle.c_macros.proofs.expansion.finish.Goals as goal
 
 pub returns-then-is_empty : goal.returns-then-is_empty

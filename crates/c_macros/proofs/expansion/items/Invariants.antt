@@ -1,6 +1,6 @@
 use Rattle.std.proofs.Common.{◌≡◌, take}
-use Rattle.c_expansion.specs.Macros.{items}
-use Rattle.c_items.specs.Views.{views}
+use Rattle.macro_meaning.specs.Macros.{items}
+use Rattle.macro_items.specs.Views.{views}
 use Rattle.c_macros.proofs.expansion.items.Given as goal
 
 abbrev pub invariant-loop-token : goal.invariant-loop-token

@@ -1,4 +1,4 @@
-use Rattle.c_items.specs.Views.{table, meaning_view}
+use Rattle.macro_items.specs.Views.{table, meaning_view}
 use Rattle.c_macros.proofs.Starting.{table_empty, started}
 use Rattle.c_macros.proofs.expansion.start.Goals as goal
 

@@ -1,9 +1,9 @@
 use Rattle.std.proofs.Common.{◌≡◌, ◌≢◌, ◌+◌, ◌-◌, [], ◌∷◌, ◌++◌, drop, length, refl, sym, ap, ◌∙◌}
 use Rattle.std.specs.Prelude.{Err}
 use Rattle.fc_base.specs.declared.refusals.Place.{Place}
-use Rattle.c_grammar.specs.Terminals.{has}
-use Rattle.c_grammar.specs.File.{Declarations}
-use Rattle.c_grammar.specs.ReadingFile.{NamedExternal, file}
+use Rattle.parse_meaning.specs.Terminals.{has}
+use Rattle.parse_meaning.specs.File.{Declarations}
+use Rattle.parse_meaning.specs.ReadingFile.{NamedExternal, file}
 use Rattle.parse_tokens.specs.declared.faults.ParseFault.TheVariants as fault
 use Rattle.parse_tokens.proofs.Names.{SameNames}
 use Rattle.parse_tokens.proofs.Turns.{one_more, no_more}

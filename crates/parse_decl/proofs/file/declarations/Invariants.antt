@@ -1,5 +1,5 @@
 use Rattle.std.proofs.Common.{◌≡◌, ◌-◌, [], length}
-use Rattle.c_grammar.specs.ReadingFile.{file}
+use Rattle.parse_meaning.specs.ReadingFile.{file}
 use Rattle.parse_decl.proofs.FileSteps.{behind_all}
 use Rattle.parse_decl.proofs.file.declarations.Given as goal
 

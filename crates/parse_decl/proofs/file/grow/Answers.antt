@@ -1,6 +1,6 @@
 use Rattle.std.proofs.Common.{◌≡◌, ◌+◌, ap, sym, ◌∙◌, [], ◌∷◌, ◌++◌, take, append_assoc}
 use Rattle.std.proofs.lemmas.List.{take_more, take_all}
-use Rattle.c_grammar.specs.Terminals.{has}
+use Rattle.parse_meaning.specs.Terminals.{has}
 use Rattle.parse_tokens.proofs.Names.{append_same, with_name_same}
 use Rattle.parse_decl.proofs.file.grow.Goals as goal
 

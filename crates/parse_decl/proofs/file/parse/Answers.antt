@@ -1,6 +1,6 @@
 use Rattle.std.proofs.Common.{◌≡◌, sym, ◌∙◌, rules}
 use Rattle.std.specs.Result.{IsErrAnd}
-use Rattle.c_grammar.specs.File as f
+use Rattle.parse_meaning.specs.File as f
 use Rattle.parse_decl.proofs.FileSteps.{err_derives, derives_read}
 use Rattle.parse_decl.proofs.file.parse.Goals as goal
 

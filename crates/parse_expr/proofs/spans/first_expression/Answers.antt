@@ -2,7 +2,7 @@ use Rattle.std.proofs.Common.{◌≡◌, ◌<◌, ◌∙◌, ℕ, true, false, n
 use Rattle.std.proofs.lemmas.Bool.Decides.{nat_tests}
 use Rattle.std.proofs.lemmas.Result.{err_from_is_err_and}
 use Rattle.c_tree.specs.declared.nodes.Expr.{Expr}
-use Rattle.c_grammar.specs.Spans.{span, Spells}
+use Rattle.parse_meaning.specs.Spans.{span, Spells}
 use Rattle.parse_tokens.specs.declared.faults.ParseFault.TheVariants as fault
 use Rattle.parse_expr.specs.Forms.{level_of, ends_at_commas}
 use Rattle.parse_expr.proofs.SpanSteps.{front_read, read_spells, none_spelled, more_left}

@@ -1,5 +1,5 @@
 use Rattle.std.proofs.Common.{◌≡◌, ◌+◌, ◌≤◌, length, drop}
-use Rattle.c_grammar.specs.Spans.{span}
+use Rattle.parse_meaning.specs.Spans.{span}
 use Rattle.parse_expr.proofs.spans.span_len.Given as goal
 
 abbrev pub invariant-loop-i : goal.invariant-loop-i

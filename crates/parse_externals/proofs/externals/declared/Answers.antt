@@ -1,10 +1,10 @@
 use Rattle.std.proofs.Common.{◌≡◌, ◌≢◌, None, rules}
 use Rattle.std.specs.Result.{IsErrAnd}
 use Rattle.parse_tokens.specs.declared.faults.ParseFault.TheVariants as fault
-use Rattle.parse_parts.specs.Counts.{specs_of}
+use Rattle.parse_leaves.specs.Counts.{specs_of}
 use Rattle.parse_externals.specs.Externals.{declared_from}
 use Rattle.parse_declarators.specs.Named.{named_of}
-use Rattle.parse_inits.proofs.Giving.{err_gives_as}
+use Rattle.parse_initialisers.proofs.ReaderAnswers.{err_gives_as}
 use Rattle.parse_externals.proofs.Behind.{declared_read, declared_fails}
 use Rattle.parse_externals.proofs.externals.declared.Goals as goal
 

@@ -1,5 +1,5 @@
 use Rattle.std.proofs.Common.{ap, map, ◌∙◌}
-use Rattle.parse_inits.specs.declared.declarations.Declared.{Declared}
+use Rattle.parse_initialisers.specs.declared.declarations.Declared.{Declared}
 use Rattle.std.proofs.lemmas.List.{take_all}
 use Rattle.parse_externals.proofs.externals.names_of.Goals as goal
 

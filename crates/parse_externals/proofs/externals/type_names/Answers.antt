@@ -1,11 +1,11 @@
 use Rattle.std.proofs.Common.{◌≡◌, ◌≢◌, ℕ, false, List, [], ◌∷◌, map, refl, ap, ◌∙◌, arith}
 use Rattle.std.specs.Prelude.{◌==◌}
 use Rattle.std.proofs.lemmas.Bool.Decides.{nat_tests}
-use Rattle.c_grammar.specs.File.{type_names}
-use Rattle.parse_parts.specs.Counts.{tally_of}
-use Rattle.parse_parts.specs.declared.tallies.Tally.{Tally}
-use Rattle.parse_inits.specs.declared.declarations.Declared.{Declared}
-use Rattle.parse_inits.specs.Declarations.{declared_of}
+use Rattle.parse_meaning.specs.File.{type_names}
+use Rattle.parse_leaves.specs.Counts.{tally_of}
+use Rattle.parse_leaves.specs.declared.tallies.Tally.{Tally}
+use Rattle.parse_initialisers.specs.declared.declarations.Declared.{Declared}
+use Rattle.parse_initialisers.specs.Declarations.{declared_of}
 use Rattle.parse_externals.proofs.externals.type_names.Goals as goal
 
 other_number : (m : ℕ) → m ≢ 0 → (m == 0) ≡ false

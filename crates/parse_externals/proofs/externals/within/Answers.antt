@@ -1,9 +1,9 @@
 use Rattle.std.proofs.Common.{◌≡◌, ℕ, nat_le, List, Some, None, refl, arith}
 use Rattle.std.specs.Prelude.{if◌then◌else◌}
-use Rattle.c_grammar.specs.Terminals.{Lexeme}
-use Rattle.c_grammar.specs.Reading.{bounded, found}
+use Rattle.parse_meaning.specs.Terminals.{Lexeme}
+use Rattle.parse_meaning.specs.Reading.{bounded, found}
 use Rattle.parse_externals.specs.Externals.{external_of}
-use Rattle.parse_inits.proofs.Giving.{kept_gives_as}
+use Rattle.parse_initialisers.proofs.ReaderAnswers.{kept_gives_as}
 use Rattle.parse_externals.proofs.externals.within.Goals as goal
 
 bounded_by : {A : Type 0} (limit other height : ℕ) (x : A) (t : List Lexeme) → other ≡ limit →

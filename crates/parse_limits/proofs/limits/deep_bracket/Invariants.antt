@@ -1,5 +1,5 @@
 use Rattle.std.proofs.Common.{◌≡◌, ◌≤◌, drop}
-use Rattle.c_grammar.specs.File.{bracket_limit, first_deep}
+use Rattle.parse_meaning.specs.File.{bracket_limit, first_deep}
 use Rattle.parse_limits.proofs.limits.deep_bracket.Given as goal
 
 abbrev pub invariant-loop-token : goal.invariant-loop-token

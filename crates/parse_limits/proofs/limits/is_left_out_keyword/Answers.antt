@@ -1,5 +1,5 @@
 use Rattle.std.proofs.Common.{◌∙◌}
-use Rattle.c_grammar.specs.Terminals.{left_out_keywords}
+use Rattle.parse_meaning.specs.Terminals.{left_out_keywords}
 use Rattle.parse_limits.proofs.Words.{by_first}
 use Rattle.parse_limits.proofs.limits.is_left_out_keyword.Goals as goal
 

@@ -1,5 +1,5 @@
 use Rattle.std.proofs.Common.{◌≡◌, drop}
-use Rattle.c_grammar.specs.File.{first_left_out}
+use Rattle.parse_meaning.specs.File.{first_left_out}
 use Rattle.parse_limits.proofs.limits.left_out_keyword.Given as goal
 
 abbrev pub invariant-loop-token : goal.invariant-loop-token

@@ -1,5 +1,5 @@
 use Rattle.std.proofs.Common.{◌≡◌, drop}
-use Rattle.c_grammar.specs.Terminals.{keyword_in}
+use Rattle.parse_meaning.specs.Terminals.{keyword_in}
 use Rattle.parse_tokens.specs.Words.{rows_of}
 use Rattle.parse_tokens.proofs.words.word_among.Given as goal
 

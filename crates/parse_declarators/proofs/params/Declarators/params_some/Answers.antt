@@ -1,7 +1,7 @@
 use Rattle.std.proofs.Common.{◌∙◌, rules, arith}
-use Rattle.c_grammar.specs.Reading.{found}
+use Rattle.parse_meaning.specs.Reading.{found}
 use Rattle.parse_tokens.proofs.Turns.{highest}
-use Rattle.parse_ends.proofs.Lists.{item_fails, end_fails, turn_ends, turn_goes, turns_over}
+use Rattle.parse_lists.proofs.Lists.{item_fails, end_fails, turn_ends, turn_goes, turns_over}
 use Rattle.parse_declarators.proofs.Items.{params_are}
 use Rattle.parse_declarators.proofs.params.Declarators.params_some.Goals as goal
 

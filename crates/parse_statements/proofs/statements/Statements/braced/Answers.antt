@@ -1,6 +1,6 @@
 use Rattle.std.proofs.Common.{◌≡◌, ◌≢◌, ◌∙◌, None, rules, arith}
 use Rattle.std.specs.Result.{IsErrAnd}
-use Rattle.c_grammar.specs.Reading.{prepended}
+use Rattle.parse_meaning.specs.Reading.{prepended}
 use Rattle.parse_tokens.specs.declared.faults.ParseFault.TheVariants as fault
 use Rattle.parse_statements.specs.Lists.{stmts_of}
 use Rattle.parse_tokens.proofs.Turns.{one_more, no_more}

@@ -1,10 +1,10 @@
 use Rattle.std.proofs.Common.{Option, List, ap, sym, ◌∙◌, subst}
 use Rattle.c_tree.specs.declared.statements.Stmt.{Stmt}
-use Rattle.c_grammar.specs.Reading.{Read, prepended, expression}
-use Rattle.c_grammar.specs.ReadingStatements as spec
+use Rattle.parse_meaning.specs.Reading.{Read, prepended, expression}
+use Rattle.parse_meaning.specs.ReadingStatements as spec
 use Rattle.parse_tokens.specs.Gives.{Gives}
 use Rattle.parse_tokens.proofs.Turns.{prepended-nothing}
-use Rattle.parse_inits.specs.Readers.{locals}
+use Rattle.parse_initialisers.specs.Readers.{locals}
 use Rattle.parse_statements.proofs.statements.Statements.items.Goals as goal
 
 pub returns-clause-reads : goal.returns-clause-reads

@@ -1,5 +1,5 @@
 use Rattle.std.proofs.Common.{◌∙◌, ap}
-use Rattle.c_grammar.specs.Terminals.{has}
+use Rattle.parse_meaning.specs.Terminals.{has}
 use Rattle.parse_tokens.proofs.Names.{has_keys}
 use Rattle.parse_tokens.proofs.type_names.TypeNames.has.Goals as goal
 

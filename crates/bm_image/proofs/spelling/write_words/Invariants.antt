@@ -1,0 +1,8 @@
+-- What is written so far.
+use Rattle.std.proofs.Common.{◌≡◌, ◌++◌, take}
+use Rattle.std.specs.List.{flat_map}
+use Rattle.bm_image.specs.Spelling.{word}
+use Rattle.bm_image.proofs.spelling.write_words.Given as goal
+
+abbrev pub invariant-loop-word : goal.invariant-loop-word
+invariant-loop-word l = l.bytes.items ≡ l.initial.bytes.items ++ flat_map word (take l.word-index l.words)

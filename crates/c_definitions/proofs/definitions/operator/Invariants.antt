@@ -1,7 +1,0 @@
-use Rattle.std.proofs.Common.{◌≡◌, drop}
-use Rattle.std.specs.Prelude.{find}
-use Rattle.c_expansion.specs.Definitions.{is_operator}
-use Rattle.c_definitions.proofs.definitions.operator.Given as goal
-
-abbrev pub invariant-loop-token : goal.invariant-loop-token
-invariant-loop-token l = find (λ t. is_operator t.kind) l.tokens ≡ find (λ t. is_operator t.kind) (drop l.token-index l.tokens)

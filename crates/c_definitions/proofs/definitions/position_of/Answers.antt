@@ -1,7 +1,0 @@
-use Rattle.std.proofs.Common.{◌∙◌}
-use Rattle.c_expansion.specs.Macros.{same_name}
-use Rattle.c_definitions.proofs.Searches.{position_named}
-use Rattle.c_definitions.proofs.definitions.position_of.Goals as goal
-
-pub returns : goal.returns
-returns c = c.get_index_of.ensures.index ∙ position_named (same_name c.args.name.now) c.args.parameters.now.keys

@@ -1,9 +1,0 @@
-use Rattle.c_expansion.proofs.ReplacementLaws.{one_outcome}
-use Rattle.c_expansion.proofs.Totality.{total}
-use Rattle.c_expansion.proofs.laws.one_replacement.Goals as goal
-
-pub returns-clause-some : goal.returns-clause-some
-returns-clause-some c = total
-
-pub returns-clause-one : goal.returns-clause-one
-returns-clause-one c = λ ms depth count ts a b x y. one_outcome x y

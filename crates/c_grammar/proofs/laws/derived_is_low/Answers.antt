@@ -1,5 +1,0 @@
-use Rattle.c_grammar.proofs.FileHeights.{file_low}
-use Rattle.c_grammar.proofs.laws.derived_is_low.Goals as goal
-
-pub returns : goal.returns
-returns c file d = file_low d.0 file d.1

@@ -1,6 +1,0 @@
-use Rattle.std.proofs.Common.{refl}
-use Rattle.c_items.proofs.Merging.{none_ascends}
-use Rattle.c_items.proofs.hide.HideSet.empty.Goals as goal
-
-pub invariant_of-result : goal.invariant_of-result
-invariant_of-result c = none_ascends _ refl

@@ -1,8 +1,0 @@
--- What is written so far.
-use Rattle.std.proofs.Common.{◌≡◌, ◌++◌, take}
-use Rattle.std.specs.List.{flat_map}
-use Rattle.image_bytes.specs.Spelling.{record_bytes}
-use Rattle.image_bytes.proofs.spelling.write_records.Given as goal
-
-abbrev pub invariant-loop-f : goal.invariant-loop-f
-invariant-loop-f l = l.bytes.items ≡ l.initial.bytes.items ++ flat_map record_bytes (take l.f-index l.functions)

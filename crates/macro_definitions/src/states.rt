@@ -1,0 +1,48 @@
+//! What is known between two directives.
+
+ghost use Rattle.std.specs.Prelude.{◌≡◌, OnOk, reverse, Some, None};
+ghost use Rattle.macro_meaning.specs.Macros.{with_macro};
+ghost use Rattle.macro_meaning.specs.Moves.{takes};
+ghost use Rattle.macro_items.specs.Views.{table, meaning_view};
+
+use c_tokens::HeaderId;
+use macro_items::{Macro, Macros};
+use macro_meaning::Group;
+use std::alloc::AllocError;
+
+/// The macros, the open conditionals, and the headers so far.
+#[derive(Drop)]
+pub struct State<'a> {
+    pub macros: Macros<'a>,
+    pub groups: Vec<Group>,
+    pub headers: Vec<HeaderId>,
+}
+
+/// The innermost open group is taken, or none is open.
+pub fn takes(groups: &[Group]) -> bool
+    ensures { result ≡ takes (reverse groups.now) }
+{
+    match groups {
+        [.., group] => group.is_taken,
+        [] => true,
+    }
+}
+
+/// Lets a name stand for this.
+pub fn set_macro<'a>(
+    macros: &mut Macros<'a>,
+    name: &'a [u8],
+    meaning: Macro<'a>,
+) -> Result<(), AllocError>
+    ensures { OnOk result (table macros.new ≡ with_macro name.now (Some (meaning_view meaning.entry)) (table macros.old)) }
+{
+    macros.insert(name, meaning)?;
+    Ok(())
+}
+
+/// Takes a name out.
+pub fn unset_macro<'a>(macros: &mut Macros<'a>, name: &[u8])
+    ensures { table macros.new ≡ with_macro name.now None (table macros.old) }
+{
+    let _ = macros.swap_remove(name);
+}

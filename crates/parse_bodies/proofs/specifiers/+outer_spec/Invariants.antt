@@ -1,4 +1,0 @@
-use Rattle.parse_bodies.proofs.specifiers.+outer_spec.Given as goal
-
-abbrev pub decreases-outer_spec : goal.decreases-outer_spec
-decreases-outer_spec l = l.depth

@@ -1,6 +1,0 @@
-pub mod Giving
-pub mod InitDeclarators
-mod Lists
-mod Attributes
-mod Locals
-mod Knots

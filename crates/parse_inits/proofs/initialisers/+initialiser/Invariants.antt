@@ -1,4 +1,0 @@
-use Rattle.parse_inits.proofs.initialisers.+initialiser.Given as goal
-
-abbrev pub decreases-initialiser : goal.decreases-initialiser
-decreases-initialiser l = l.depth

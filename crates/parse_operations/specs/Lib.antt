@@ -1,0 +1,2 @@
+pub mod LeftOperands
+pub mod Operations

@@ -1,7 +1,0 @@
-use Rattle.std.proofs.Common.{◌≡◌, ◌-◌}
-use Rattle.c_grammar.specs.Reading as spec
-use Rattle.parse_parts.proofs.AttributeSteps.{before}
-use Rattle.parse_parts.proofs.attributes.attributes.Given as goal
-
-abbrev pub invariant-loop-turn : goal.invariant-loop-turn
-invariant-loop-turn l = spec.attributes l.fn.turns l.fn.tokens ≡ before l.all (spec.attributes (l.turns - l._turn) l.tokens)
