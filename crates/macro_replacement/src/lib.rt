@@ -2,5 +2,6 @@
 #![tactic(auto)]
 
 mod replacement;
+mod turns;
 
 pub use replacement::{append_replaced, replace};

@@ -11,10 +11,10 @@ ghost use Rattle.macro_items.specs.HideSets.{held};
 ghost use Rattle.macro_items.specs.Views.{view, views, left, table, argument_view, argument_views, piece_views};
 ghost use Rattle.macro_replacement.specs.Replacing.{text_of, AddsAs, StaysAs, GivesAs};
 
+use crate::turns::{Turn, meaning_of, turn_of};
 use c_tokens::{TOKEN_LIMIT, Token, TokenKind};
 use fc_base::{Fault, NoMemory, Place, Refusal, Rule};
 use macro_items::{Argument, Arguments, HideSet, Hides, Item, Macros, NESTING_LIMIT, Piece};
-use macro_turns::{Turn, meaning_of, turn_of};
 use std::alloc::{AllocError, Global};
 use std::mem;
 

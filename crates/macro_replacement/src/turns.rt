@@ -4,7 +4,7 @@ ghost use Rattle.std.specs.Prelude.{◌≡◌, ◌≤◌, ◌<◌, ◌+◌, IfOk
 ghost use Rattle.macro_meaning.specs.Turns.{intersection, with_name, meaning_of, opens_next, called_with, call, by_meaning};
 ghost use Rattle.macro_items.specs.HideSets.{held};
 ghost use Rattle.macro_items.specs.Views.{left, view, meaning_view, piece_views, table};
-ghost use Rattle.macro_turns.specs.Turning.{TurnsAs, IsWithin};
+ghost use Rattle.macro_replacement.specs.Turning.{TurnsAs, IsWithin};
 
 use c_tokens::{Punct, TokenKind};
 use fc_base::both;

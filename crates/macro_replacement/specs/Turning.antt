@@ -4,8 +4,8 @@ use Rattle.macro_meaning.specs.Macros.{Item}
 use Rattle.macro_meaning.specs.Turns.{Turn, stays, bad_call, becomes}
 use Rattle.macro_items.specs.HideSets.{held}
 use Rattle.macro_items.specs.Views.{piece_views, argument_views}
-use Rattle.macro_turns.specs.declared.turns.Turn.{Turn as Taken}
-use Rattle.macro_turns.specs.declared.turns.Turn.TheVariants.{Stays, BadCall, Becomes}
+use Rattle.macro_replacement.specs.declared.turns.Turn.{Turn as Taken}
+use Rattle.macro_replacement.specs.declared.turns.Turn.TheVariants.{Stays, BadCall, Becomes}
 
 abbrev pub TurnsAs : Taken → List Item → List Item → Turn → Type 0
 TurnsAs Stays old new t = (t ≡ stays) × (new ≡ old)
