@@ -1,9 +1,9 @@
 -- One instruction after another.
 use Rattle.std.proofs.Common.{◌≡◌, ℕ, ◌+◌, ◌%◌, List, [], ◌∷◌, ◌++◌, Bool, true, false, nat_lt, ◌==◌, cond, is_some, Option, None, Some, slice_get, replicate, refl, sym, ◌∙◌, ap, subst, append_assoc, append-nil, add-one}
 use Rattle.fc_base.specs.Outside.{Takes, Appends, AppendsFront, IsFront}
-use Rattle.fc_base.specs.Runs.{Shown, on_descriptor, bytes_on, Moves, MovesUpTo}
-use Rattle.fc_base.specs.Events.{overflow_line}
-use Rattle.fc_base.proofs.Moved.{bytes_on-same, bytes_on-other, takes-none, appends-none, appends-append}
+use Rattle.run_meaning.specs.Runs.{Shown, on_descriptor, bytes_on, Moves, MovesUpTo}
+use Rattle.run_meaning.specs.Events.{overflow_line}
+use Rattle.run_meaning.proofs.Moved.{bytes_on-same, bytes_on-other, takes-none, appends-none, appends-append}
 use Rattle.fc_base.specs.declared.levels.End.TheVariants as ends
 use Rattle.bm_isa.specs.declared.instructions.Instr.{Instr}
 use Rattle.bm_isa.specs.declared.instructions.Instr.TheVariants as instr

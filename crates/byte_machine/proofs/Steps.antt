@@ -6,7 +6,7 @@ use Rattle.std.proofs.lemmas.Grind.{get_or_default_zero}
 use Rattle.fc_base.specs.Outside.{Appends, AppendsFront}
 use Rattle.bm_isa.specs.declared.instructions.Instr.{Instr}
 use Rattle.bm_isa.specs.declared.instructions.Instr.TheVariants as instr
-use Rattle.fc_base.specs.Events.{overflow_line}
+use Rattle.run_meaning.specs.Events.{overflow_line}
 use Rattle.fc_base.specs.declared.levels.End.TheVariants as ends
 use Rattle.byte_machine.specs.declared.images.FnRec.{FnRec}
 use Rattle.byte_machine.specs.declared.machine.Machine.TheInside.{Inside}

@@ -1,7 +1,7 @@
 -- What the calls of a machine promise, over any source and any sinks. This project's own.
 use Rattle.std.specs.Prelude.{◌≡◌, ◌≢◌, ℕ, zero, suc, ◌≤◌, List, [], Option, None, slice_get}
 use Rattle.fc_base.specs.Outside.{IfTold}
-use Rattle.fc_base.specs.Runs.{Shown, Moves, MovesUpTo, bytes_on}
+use Rattle.run_meaning.specs.Runs.{Shown, Moves, MovesUpTo, bytes_on}
 use Rattle.bm_isa.specs.declared.instructions.Instr.{Instr}
 use Rattle.byte_machine.specs.declared.machine.Stop.{Stop}
 use Rattle.byte_machine.specs.State.{Core, State, Program, next, after}

@@ -1,7 +1,7 @@
 -- What one instruction does to a machine and to standard error, the one object that the instructions so far reach.
 use Rattle.std.specs.Prelude.{◌≡◌, ◌≢◌, ℕ, List, [], Option, None, Some}
 use Rattle.fc_base.specs.Outside.{Appends, AppendsFront}
-use Rattle.fc_base.specs.Runs.{on_descriptor}
+use Rattle.run_meaning.specs.Runs.{on_descriptor}
 use Rattle.byte_machine.specs.State.{Core, State, Program, next}
 use Rattle.byte_machine.specs.Opening.{begun}
 use Rattle.byte_machine.specs.Machines.{Loaded}

@@ -1,8 +1,8 @@
 -- The machine's state and the table of its instructions. It knows addresses and numbers alone. This project's own.
 use Rattle.std.specs.Prelude.{ℕ, zero, suc, ◌+◌, ◌%◌, List, [], ◌∷◌, ◌++◌, length, Bool, ◌&&◌, ◌||◌, ◌==◌, nat_lt, nat_le, cond, Option, None, Some, slice_get, slice_index, slice_set, replicate, is_some}
 use Rattle.std.specs.List.{splice}
-use Rattle.fc_base.specs.Runs.{Shown, Standing, Ended, Going, World, on_descriptor}
-use Rattle.fc_base.specs.Events.{overflow_line}
+use Rattle.run_meaning.specs.Runs.{Shown, Standing, Ended, Going, World, on_descriptor}
+use Rattle.run_meaning.specs.Events.{overflow_line}
 use Rattle.fc_base.specs.declared.levels.End.{End}
 use Rattle.fc_base.specs.declared.levels.End.TheVariants as ends
 use Rattle.bm_isa.specs.declared.instructions.Instr.{Instr}

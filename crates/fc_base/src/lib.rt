@@ -1,4 +1,4 @@
-//! The words that every layer shares: faults, refusals, places, texts, the outside world, and what a run shows.
+//! The words that every layer shares: faults, refusals, places, texts, and the outside world.
 #![tactic(auto)]
 
 mod faults;
@@ -9,7 +9,6 @@ mod outside;
 mod parts;
 mod refusals;
 mod rules;
-mod runs;
 mod texts;
 mod undefined;
 
@@ -21,6 +20,5 @@ pub use outside::{Sink, Source, Store};
 pub use parts::both;
 pub use refusals::{Fault, Place, Refusal};
 pub use rules::Rule;
-pub use runs::follows_composes;
 pub use texts::{Text, Words};
 pub use undefined::UndefKind;

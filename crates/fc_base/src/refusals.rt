@@ -28,6 +28,15 @@ pub enum Fault {
     NoMemory,
 }
 
+impl Fault {
+    /// The source breaks the rule at the place.
+    pub fn refused(rule: Rule, place: Place) -> Fault
+        ensures { result ≡ Fault.Refused (record { rule = rule; place = place }) }
+    {
+        Fault::Refused(Refusal { rule, place })
+    }
+}
+
 impl From<AllocError> for Fault {
     ghost from_gives = { λ _ e. e ≡ MemoryFault };
 

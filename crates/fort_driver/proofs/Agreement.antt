@@ -4,8 +4,8 @@ use Rattle.std.specs.List.{list_all}
 use Rattle.std.proofs.lemmas.Bool.{lt-ltb, le-ltb, le-leb, ltb-false, cases_lt, and_from, and_parts, or_right}
 use Rattle.bm_isa.specs.declared.instructions.Instr.{Instr}
 use Rattle.bm_isa.specs.declared.instructions.Instr.TheVariants as instr
-use Rattle.fc_base.specs.Runs.{Shown, Standing, Ended, Going, Undefined}
-use Rattle.fc_base.specs.Events.{source_shown, Asked, Check}
+use Rattle.run_meaning.specs.Runs.{Shown, Standing, Ended, Going, Undefined}
+use Rattle.run_meaning.specs.Events.{source_shown, Asked, Check}
 use Rattle.fc_base.specs.declared.levels.End.{End}
 use Rattle.fc_base.specs.declared.levels.End.TheVariants as ends
 use Rattle.fc_base.specs.declared.levels.Level.TheVariants as levels

@@ -1,7 +1,7 @@
 -- The one answer that an outcome is, by the bytes under FILE.
 use Rattle.std.proofs.Common.{◌≡◌, ◌≢◌, ℕ, ◌≤◌, ◌<◌, List, [], length, Option, Some, Result, Ok, Err, refl, sym, ◌∙◌, ap, subst, inl, inr, arith, slice_index_or, lit≤}
 use Rattle.fc_base.specs.Outside.{Files}
-use Rattle.fc_base.specs.Runs.{Ended}
+use Rattle.run_meaning.specs.Runs.{Ended}
 use Rattle.fc_base.specs.declared.levels.End.{End}
 use Rattle.byte_machine.specs.State.{Core, Program}
 use Rattle.byte_machine.specs.Opening.{program_of, first_core}

@@ -1,7 +1,7 @@
 -- The plain meaning of the one form of source that is compiled so far.
 use Rattle.std.specs.Prelude.{List, [], ◌∷◌, false, nat_lt, Some}
-use Rattle.fc_base.specs.Events.{Event, Asked, Check, source_shown}
-use Rattle.fc_base.specs.Runs.{Ended, Runs}
+use Rattle.run_meaning.specs.Events.{Event, Asked, Check, source_shown}
+use Rattle.run_meaning.specs.Runs.{Ended, Runs}
 use Rattle.fc_base.specs.declared.levels.End.TheVariants as ends
 use Rattle.fc_base.specs.declared.levels.Level.TheVariants as levels
 use Rattle.fc_base.specs.declared.levels.Mode.TheVariants as modes

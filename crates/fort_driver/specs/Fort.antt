@@ -2,7 +2,7 @@
 use Rattle.std.specs.Prelude.{◌≡◌, ◌≢◌, ℕ, ◌+◌, ◌*◌, ◌≤◌, ◌<◌, ◌^◌, List, length, Option, None, Some, Ok, Err, ⊤, ◌⊎◌}
 use Rattle.std.specs.List.{AllByRecursion}
 use Rattle.fc_base.specs.Outside.{Files, IfTold, Puts, KeepsOthers, Rose}
-use Rattle.fc_base.specs.Runs.{Ended, Follows}
+use Rattle.run_meaning.specs.Runs.{Ended, Follows}
 use Rattle.fc_base.specs.declared.levels.End.{End}
 use Rattle.fc_base.specs.declared.levels.Level.TheVariants.{Three}
 use Rattle.fc_base.specs.declared.refusals.Refusal.{Refusal}

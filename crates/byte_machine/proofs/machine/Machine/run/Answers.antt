@@ -5,7 +5,7 @@ use Rattle.byte_machine.specs.View.{end_of_stop}
 use Rattle.byte_machine.specs.declared.machine.Stop.TheVariants as stops
 use Rattle.byte_machine.specs.declared.machine.Step.TheVariants as steps
 use Rattle.byte_machine.proofs.Runs.{wrote_by-zero, wrote_by-more, advances, fails_after, goes, ended, faults, no_other}
-use Rattle.fc_base.proofs.Moved.{rose-later}
+use Rattle.run_meaning.proofs.Moved.{rose-later}
 use Rattle.byte_machine.proofs.machine.Machine.run.Goals as goal
 
 pub loop-turn-init : goal.loop-turn-init

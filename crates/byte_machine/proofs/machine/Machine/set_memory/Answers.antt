@@ -2,7 +2,7 @@
 use Rattle.std.proofs.Common.{arith, refl, ◌≡◌, ◌%◌, sym, ◌∙◌, ap, slice_index_or, slice_get, replicate}
 use Rattle.std.specs.Vec.{with_items}
 use Rattle.std.proofs.lemmas.List.{with_items_is}
-use Rattle.fc_base.specs.Events.{overflow_line}
+use Rattle.run_meaning.specs.Events.{overflow_line}
 use Rattle.byte_machine.specs.State.{put, giving, ending}
 use Rattle.fc_base.specs.declared.levels.End.TheVariants as ends
 use Rattle.byte_machine.specs.Opening.{begun}

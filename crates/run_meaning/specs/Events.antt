@@ -1,7 +1,7 @@
 -- The events of the plain meaning, and what of them is shown at a level. The overflow line is glibc's `__chk_fail`
 -- text; the form of the size line is this project's own.
 use Rattle.std.specs.Prelude.{ℕ, List, [], ◌∷◌, ◌++◌, Bool, true, Option, codes, decimal, cond}
-use Rattle.fc_base.specs.Runs.{Shown, Standing, Ended, on_descriptor}
+use Rattle.run_meaning.specs.Runs.{Shown, Standing, Ended, on_descriptor}
 use Rattle.fc_base.specs.declared.levels.End.TheVariants as ends
 use Rattle.fc_base.specs.declared.levels.Level.{Level}
 use Rattle.fc_base.specs.declared.levels.Level.TheVariants as levels

@@ -1,7 +1,7 @@
 -- What moves on each descriptor, one after the other.
 use Rattle.std.proofs.Common.{◌≡◌, ℕ, ◌≤◌, ◌==◌, List, [], ◌∷◌, ◌++◌, true, false, cond, map, filter, Option, None, Some, refl, sym, ◌∙◌, ap, append_assoc, append-nil, arith}
 use Rattle.fc_base.specs.Outside.{Takes, Appends, Rose}
-use Rattle.fc_base.specs.Runs.{on_descriptor, bytes_on}
+use Rattle.run_meaning.specs.Runs.{on_descriptor, bytes_on}
 
 -- bytes of one descriptor are all on it, and none is on another
 pub bytes_on-same : (d : ℕ) (line : List ℕ) → (d == d) ≡ true → bytes_on d (on_descriptor d line) ≡ line

@@ -1,7 +1,7 @@
 -- Following composes.
 use Rattle.std.proofs.Common.{◌≡◌, ℕ, ◌≤◌, ◌++◌, refl, sym, ◌∙◌, ap, append_assoc, arith}
 use Rattle.fc_base.specs.Outside.{IsFront}
-use Rattle.fc_base.specs.Runs.{Shown, Standing, Ended, Undefined, Going, Runs, Follows, FollowsComposes}
+use Rattle.run_meaning.specs.Runs.{Shown, Standing, Ended, Undefined, Going, Runs, Follows, FollowsComposes}
 
 -- the middle run shows at least the first one's list, however it stands, and so does the last one
 past : (g : ℕ → ℕ) (b c : Runs) → Follows g c b → (m : ℕ) (list : Shown) → IsFront list (b m).0

@@ -1,0 +1,6 @@
+//! What a run shows and how it stands: the words that the plain meaning, modules and the machine share.
+#![tactic(auto)]
+
+mod laws;
+
+pub use laws::follows_composes;
