@@ -7,5 +7,4 @@ pub mod LaidOut
 pub mod Offsets
 pub mod Placements
 pub mod Related
-pub mod Table
 pub mod TypeLayouts

@@ -1,8 +1,5 @@
-//! Laws of the definitions of layouts and of the library's table: each is the clause of a function that does nothing.
+//! Laws of the definitions of layouts: each is the clause of a function that does nothing.
 
-ghost use Rattle.std.specs.Prelude.{◌≡◌, Some, length, slice_get};
-ghost use Rattle.c_layout.specs.declared.library.LibFn.{LibFn};
-ghost use Rattle.c_layout.specs.Library.{library, row_of};
 ghost use Rattle.c_layout.specs.Laws.{GivesNextMultiple, HasSmallAlignments, PlacesMembers, PlacesOffsets};
 
 /// What rounding up gives is the first multiple.
@@ -24,10 +21,4 @@ pub fn offset_law()
 /// Each alignment is from 1 to 8.
 pub fn alignment_law()
     ensures { HasSmallAlignments }
-{}
-
-/// The functions of the library are numbered from 0, in the order of their list.
-pub fn library_law()
-    ensures numbered { (f : LibFn) → slice_get library (row_of f).number ≡ Some f }
-    ensures all { length library ≡ 31 }
 {}

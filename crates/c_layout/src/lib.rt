@@ -1,4 +1,4 @@
-//! The types of C with their sizes and offsets, and the table of library functions.
+//! The types of C with their sizes and offsets.
 #![tactic(auto)]
 
 mod laws;
@@ -8,8 +8,10 @@ mod sizes;
 mod tags;
 mod types;
 
+pub use c_headers::{HeaderNumber, lib_by_name};
+pub use c_library::{LibFn, lib_mode};
 pub use laws::{alignment_law, next_multiple_law, placement_law};
 pub use layouts::{layout_of, offset_of};
-pub use library::{HeaderNumber, LibFn, lib_by_name, lib_mode};
+pub use library::lib_ctype;
 pub use tags::{Member, TagDef, Tags};
 pub use types::{CType, Layout, LayoutFault};

@@ -26,14 +26,14 @@ pub enum CType {
 }
 
 /// How many bytes a type takes, and at multiples of which number it stands (C11 6.2.8 and 6.5.3.4).
-#[derive(Clone, Copy, Debug, PartialEq, Eq)]
+#[derive(Clone, Copy, PartialEq, Eq)]
 pub struct Layout {
     pub size: u64,
     pub align: u64,
 }
 
 /// Why a type has no layout: it is incomplete, or it takes over 4,194,304 bytes.
-#[derive(Clone, Copy, Debug, PartialEq, Eq)]
+#[derive(Clone, Copy, PartialEq, Eq)]
 pub enum LayoutFault {
     Incomplete,
     TooBig,

@@ -1,21 +1,22 @@
--- A source has one cut, and `cut` is its reading.
-use Rattle.std.proofs.Common.{◌≡◌, ℕ, zero, suc, ◌+◌, ◌-◌, ◌<◌, ◌≤◌, Bool, true, false, List, [], ◌∷◌, ◌++◌, length, take, drop, Option, Some, None, Result, Ok, Err, ◌⊎◌, inl, inr, refl, sym, ap, subst, ◌∙◌, append_assoc, arith}
+-- A source has one cut, and `scan` is its reading.
+use Rattle.std.proofs.Common.{◌≡◌, ℕ, zero, suc, ◌-◌, ◌<◌, ◌≤◌, Bool, false, List, [], ◌∷◌, ◌++◌, length, take, drop, Option, Some, None, Result, Ok, Err, ◌⊎◌, inl, inr, refl, sym, ap, subst, ◌∙◌, append_assoc, arith}
 use Rattle.std.proofs.lemmas.Bool.{cases_order}
 use Rattle.std.proofs.lemmas.List.{append-nil, take-append-drop, length-take-le, length-drop, length-map}
-use Rattle.fc_base.specs.declared.refusals.Place.{Place}
 use Rattle.fc_base.specs.declared.refusals.Refusal.{Refusal}
 use Rattle.fc_base.specs.declared.refusals.Fault.{Fault}
-use Rattle.fc_base.specs.declared.refusals.Fault.TheVariants.{Refused as Refuses, NoMemory}
+use Rattle.fc_base.specs.declared.refusals.Fault.TheVariants as fault
+use Rattle.fc_base.specs.Answers.{Fails, Answers}
 use Rattle.c_tokens.specs.declared.tokens.Token.{Token}
 use Rattle.c_tokens.specs.declared.tokens.TokenKind.{TokenKind}
 use Rattle.c_tokens.specs.declared.pieces.Piece.{Piece}
 use Rattle.c_tokens.specs.declared.pieces.Piece.TheVariants.{Space, Newline, Token as TokenPiece, Refused}
 use Rattle.c_tokens.specs.Pieces.{spelled}
-use Rattle.c_lexer.specs.Places.{Cell, placed, bytes_of, places_of}
+use Rattle.c_lexer.specs.Places.{Cell, placed, bytes_of}
 use Rattle.c_lexer.specs.Longest.{longest, IsLongest, TakesNone, LongestFront}
-use Rattle.c_lexer.specs.Lexed.{Cut, all_cut, refused_at, after, token_at, is_first, opens_header, with_piece, with_longest, cut, Outcome, outcome_of, lexed, Gives}
+use Rattle.c_lexer.specs.Outcomes.{Scanned, outcome_of}
+use Rattle.c_lexer.specs.Lexed.{with_piece, with_longest, scan, lexed}
 use Rattle.c_lexer.specs.Reading.{after_all}
-use Rattle.c_lexer.specs.Cuts.{Stretch, cells_of, text_of, on_line, line_behind, is_blank, ends_blank, spelled_behind, is_refused, IsEachLongest, Ends, at_end, bad_byte, refused, token_in, tokens_of, IsLexed, IsLexing}
+use Rattle.c_lexer.specs.Cuts.{Stretch, cells_of, text_of, on_line, line_behind, is_blank, ends_blank, spelled_behind, is_refused, IsEachLongest, Ends, at_end, bad_byte, refused, token_in, tokens_of, IsLexed}
 use Rattle.c_lexer.proofs.Longest.{longest_tells}
 
 -- ---- the longest front is one
@@ -31,7 +32,10 @@ module _ {X : Type 0} (f : List ℕ → Option X) (bs : List ℕ) where
   same_front n m x y a b = cases (cases_order n m)
     where
       cases : (n ≡ m) ⊎ ((n < m) ⊎ (m < n)) → some_front n x ≡ some_front m y
-      cases (inl e) = let is : Some x ≡ Some y = sym a.is ∙ ap (λ (k : ℕ). f (take k bs)) e ∙ b.is in let same : x ≡ y = cc in rw (e, same) refl
+      cases (inl e) =
+          let is : Some x ≡ Some y = sym a.is ∙ ap (λ (k : ℕ). f (take k bs)) e ∙ b.is in
+          let same : x ≡ y = cc in
+          rw (e, same) refl
       cases (inr (inl lt)) = absurd (not_longer n m x y lt a b)
       cases (inr (inr lt)) = absurd (not_longer m n y x lt b a)
 
@@ -51,13 +55,15 @@ module _ {X : Type 0} (f : List ℕ → Option X) (bs : List ℕ) where
 
 -- ---- the cut goes over each stretch
 
-cut_past : (line : List TokenKind) (spaced : Bool) (done rest : List Cell) → cut line spaced (length done) (done ++ rest) ≡ cut line spaced 0 rest
-unfolding cut
+cut_past : (line : List TokenKind) (spaced : Bool) (done rest : List Cell)
+    → scan line spaced (length done) (done ++ rest) ≡ scan line spaced 0 rest
+unfolding scan
 cut_past line spaced [] rest = refl
 cut_past line spaced (c ∷ done) rest = cut_past line spaced done rest
 
 -- one piece, with what comes behind it
-piece_cut : (before : List Stretch) (s : Stretch) (cells : List Cell) (rest : List TokenKind → Bool → Cut) (piece : Piece) → is_refused piece ≡ false
+piece_cut : (before : List Stretch) (s : Stretch) (cells : List Cell) (rest : List TokenKind → Bool → Scanned) (piece : Piece)
+    → is_refused piece ≡ false
     → with_piece (line_behind before) (ends_blank before) s.first.place cells piece rest ≡ after_all (token_in before s.first.place piece) (rest (on_line piece (line_behind before)) (is_blank piece))
 piece_cut before s cells rest Space kept = refl
 piece_cut before s cells rest Newline kept = refl
@@ -66,51 +72,53 @@ piece_cut before s cells rest (Refused rule offset) kept = absurd cc
 
 stretch_cut : (before : List Stretch) (s : Stretch) (rest : List Cell) → is_refused s.piece ≡ false
     → IsLongest (spelled_behind before) (bytes_of (cells_of s ++ rest)) (length (cells_of s)) s.piece
-    → cut (line_behind before) (ends_blank before) 0 (cells_of s ++ rest) ≡ after_all (token_in before s.first.place s.piece) (cut (line_behind (s ∷ before)) (ends_blank (s ∷ before)) 0 rest)
-unfolding cut line_behind
+    → scan (line_behind before) (ends_blank before) 0 (cells_of s ++ rest) ≡ after_all (token_in before s.first.place s.piece) (scan (line_behind (s ∷ before)) (ends_blank (s ∷ before)) 0 rest)
+unfolding scan line_behind
 stretch_cut before s rest kept is =
     let pred : suc (length s.more) - 1 ≡ length s.more = omega arith in
-    ap (λ r. with_longest (line_behind before) (ends_blank before) s.first.place (cells_of s ++ rest) r (λ line spaced size. cut line spaced (size - 1) (s.more ++ rest)))
+    ap (λ r. with_longest (line_behind before) (ends_blank before) s.first.place (cells_of s ++ rest) r (λ line spaced size. scan line spaced (size - 1) (s.more ++ rest)))
     (longest_is (spelled_behind before) (bytes_of (cells_of s ++ rest)) (length (cells_of s)) s.piece is)
-    ∙ piece_cut before s (cells_of s ++ rest) (λ line spaced. cut line spaced (suc (length s.more) - 1) (s.more ++ rest)) s.piece kept
+    ∙ piece_cut before s (cells_of s ++ rest) (λ line spaced. scan line spaced (suc (length s.more) - 1) (s.more ++ rest)) s.piece kept
     ∙ rw pred (ap (after_all (token_in before s.first.place s.piece)) (cut_past (on_line s.piece (line_behind before)) (is_blank s.piece) s.more rest))
 
-both_fronts : (a b : List Token) (c : Cut) → after_all a (after_all b c) ≡ after_all (a ++ b) c
+both_fronts : (a b : List Token) (c : Scanned) → after_all a (after_all b c) ≡ after_all (a ++ b) c
 both_fronts a b c = ap (λ (ts : List Token). record { tokens = ts; refusal = c.refusal }) (sym (append_assoc a b c.tokens))
 
 -- the cut behind the stretches, with their tokens before it, is the cut of the whole
 cut_behind : (stretches : List Stretch) (rest : List Cell) → IsEachLongest stretches rest
-    → cut [] false 0 (text_of stretches ++ rest) ≡ after_all (tokens_of stretches) (cut (line_behind stretches) (ends_blank stretches) 0 rest)
+    → scan [] false 0 (text_of stretches ++ rest) ≡ after_all (tokens_of stretches) (scan (line_behind stretches) (ends_blank stretches) 0 rest)
 unfolding text_of line_behind tokens_of
 cut_behind [] rest each = refl
 cut_behind (s ∷ before) rest each =
-    ap (cut [] false 0) (append_assoc (text_of before) (cells_of s) rest)
+    ap (scan [] false 0) (append_assoc (text_of before) (cells_of s) rest)
     ∙ cut_behind before (cells_of s ++ rest) each.0
     ∙ ap (after_all (tokens_of before)) (stretch_cut before s rest each.1 each.2)
-    ∙ both_fronts (tokens_of before) (token_in before s.first.place s.piece) (cut (line_behind (s ∷ before)) (ends_blank (s ∷ before)) 0 rest)
+    ∙ both_fronts (tokens_of before) (token_in before s.first.place s.piece) (scan (line_behind (s ∷ before)) (ends_blank (s ∷ before)) 0 rest)
 
 cut_end : (before : List Stretch) (rest : List Cell) (refusal : Option Refusal) → Ends before rest refusal
-    → cut (line_behind before) (ends_blank before) 0 rest ≡ record { tokens = []; refusal = refusal }
-unfolding cut
+    → scan (line_behind before) (ends_blank before) 0 rest ≡ record { tokens = []; refusal = refusal }
+unfolding scan
 cut_end before _ _ at_end = refl
 cut_end before _ _ (bad_byte c cs none) =
-    ap (λ r. with_longest (line_behind before) (ends_blank before) c.place (c ∷ cs) r (λ line spaced size. cut line spaced (size - 1) cs))
+    ap (λ r. with_longest (line_behind before) (ends_blank before) c.place (c ∷ cs) r (λ line spaced size. scan line spaced (size - 1) cs))
     (longest_is_none (spelled_behind before) (bytes_of (c ∷ cs)) none)
 cut_end before _ _ (refused c cs n rule offset is) =
-    ap (λ r. with_longest (line_behind before) (ends_blank before) c.place (c ∷ cs) r (λ line spaced size. cut line spaced (size - 1) cs))
+    ap (λ r. with_longest (line_behind before) (ends_blank before) c.place (c ∷ cs) r (λ line spaced size. scan line spaced (size - 1) cs))
     (longest_is (spelled_behind before) (bytes_of (c ∷ cs)) n (Refused rule offset) is)
 
-no_more : (tokens : List Token) (refusal : Option Refusal) → after_all tokens (record { tokens = []; refusal = refusal }) ≡ record { tokens = tokens; refusal = refusal }
+no_more : (tokens : List Token) (refusal : Option Refusal)
+    → after_all tokens (record { tokens = []; refusal = refusal }) ≡ record { tokens = tokens; refusal = refusal }
 no_more tokens refusal = ap (λ (ts : List Token). record { tokens = ts; refusal = refusal }) (append-nil tokens)
 
-cut_whole : (bytes : List ℕ) (stretches : List Stretch) (rest : List Cell) (refusal : Option Refusal) → text_of stretches ++ rest ≡ placed false 1 1 bytes → IsEachLongest stretches rest → Ends stretches rest refusal
+cut_whole : (bytes : List ℕ) (stretches : List Stretch) (rest : List Cell) (refusal : Option Refusal)
+    → text_of stretches ++ rest ≡ placed bytes → IsEachLongest stretches rest → Ends stretches rest refusal
     → lexed bytes ≡ outcome_of (record { tokens = tokens_of stretches; refusal = refusal })
 unfolding lexed
 cut_whole bytes stretches rest refusal text each end =
     ap outcome_of
-    (ap (cut [] false 0) (sym text) ∙ cut_behind stretches rest each ∙ ap (after_all (tokens_of stretches)) (cut_end stretches rest refusal end) ∙ no_more (tokens_of stretches) refusal)
+    (ap (scan [] false 0) (sym text) ∙ cut_behind stretches rest each ∙ ap (after_all (tokens_of stretches)) (cut_end stretches rest refusal end) ∙ no_more (tokens_of stretches) refusal)
 
-pub lexed_only : (bytes : List ℕ) (outcome : Outcome) → IsLexed bytes outcome → outcome ≡ lexed bytes
+pub lexed_only : (bytes : List ℕ) (outcome : Result (List Token) Refusal) → IsLexed bytes outcome → outcome ≡ lexed bytes
 lexed_only bytes outcome is = is.gives ∙ sym (cut_whole bytes is.stretches is.rest is.refusal is.text is.longest is.end)
 
 -- ---- each source has a cut
@@ -128,13 +136,15 @@ next_cells : (c : Cell) (cs : List Cell) (n : ℕ) → (c ∷ take n cs) ++ drop
 next_cells c cs n = ap (λ (xs : List Cell). c ∷ xs) (take-append-drop n cs)
 
 module _ (text : List Cell) where
-  stopped : (before : List Stretch) (rest : List Cell) (refusal : Option Refusal) → text_of before ++ rest ≡ text → IsEachLongest before rest → Ends before rest refusal → CutFrom text
+  stopped : (before : List Stretch) (rest : List Cell) (refusal : Option Refusal) → text_of before ++ rest ≡ text
+      → IsEachLongest before rest → Ends before rest refusal → CutFrom text
   stopped before rest refusal text_is each end = record { stretches = before; rest = rest; refusal = refusal; text_is = text_is; each = each; end = end }
 
   -- one stretch more
   module _ (before : List Stretch) (c : Cell) (cs : List Cell) (text_is : text_of before ++ c ∷ cs ≡ text) (each : IsEachLongest before (c ∷ cs))
       (more : (s : Stretch) (rest : List Cell) → length rest ≤ length cs → text_of (s ∷ before) ++ rest ≡ text → IsEachLongest (s ∷ before) rest → CutFrom text) where
-    taken : (n : ℕ) (piece : Piece) → is_refused piece ≡ false → IsLongest (spelled_behind before) (bytes_of (c ∷ cs)) (suc n) piece → CutFrom text
+    taken : (n : ℕ) (piece : Piece) → is_refused piece ≡ false → IsLongest (spelled_behind before) (bytes_of (c ∷ cs)) (suc n) piece
+        → CutFrom text
     unfolding text_of
     taken n piece kept is =
         let s : Stretch = record { first = c; more = take n cs; piece = piece } in
@@ -160,7 +170,8 @@ module _ (text : List Cell) where
     front_at None none = stopped before (c ∷ cs) _ text_is each (bad_byte c cs none)
     front_at (Some r) is = piece_at r.0 r.1 is
 
-  cut_on : (bound : ℕ) (before : List Stretch) (cells : List Cell) → length cells ≤ bound → text_of before ++ cells ≡ text → IsEachLongest before cells → CutFrom text
+  cut_on : (bound : ℕ) (before : List Stretch) (cells : List Cell) → length cells ≤ bound → text_of before ++ cells ≡ text
+      → IsEachLongest before cells → CutFrom text
   cut_on bound before [] few text_is each = stopped before [] None text_is each at_end
   cut_on zero before (c ∷ cs) few text_is each = absurd (omega arith)
   cut_on (suc bound) before (c ∷ cs) few text_is each =
@@ -169,7 +180,7 @@ module _ (text : List Cell) where
 pub lexed_is : (bytes : List ℕ) → IsLexed bytes (lexed bytes)
 unfolding text_of
 lexed_is bytes =
-    let text = placed false 1 1 bytes in
+    let text = placed bytes in
     let found = cut_on text (length text) [] text (omega arith) refl tt in
     record {
       stretches = found.stretches;
@@ -183,13 +194,14 @@ lexed_is bytes =
 
 -- ---- what a call gives
 
-lexed_as : (bytes : List ℕ) (outcome : Outcome) → lexed bytes ≡ outcome → IsLexed bytes outcome
+lexed_as : (bytes : List ℕ) (outcome : Result (List Token) Refusal) → lexed bytes ≡ outcome → IsLexed bytes outcome
 lexed_as bytes outcome e = subst (IsLexed bytes) e (lexed_is bytes)
 
-fault_as : (fault : Fault) (bytes : List ℕ) → Gives {X = List Token} (λ v. v) (Err fault) (lexed bytes) → IsLexing {X = List Token} (λ v. v) (Err fault) bytes
-fault_as NoMemory bytes is = tt
-fault_as (Refuses refusal) bytes is = lexed_as bytes (Err refusal) is
+fault_as : (f : Fault) (bytes : List ℕ) → Fails {Y = List Token} f (λ out. lexed bytes ≡ out) → Fails f (IsLexed bytes)
+fault_as fault.NoMemory bytes is = tt
+fault_as (fault.Refused refusal) bytes is = lexed_as bytes (Err refusal) is
 
-pub given_as : {V : Type 0} (see : V → List Token) (r : Result V Fault) (bytes : List ℕ) → Gives see r (lexed bytes) → IsLexing see r bytes
+pub given_as : {V : Type 0} (see : V → List Token) (r : Result V Fault) (bytes : List ℕ) → Answers see r (λ out. lexed bytes ≡ out)
+    → Answers see r (IsLexed bytes)
 given_as see (Ok v) bytes is = lexed_as bytes (Ok (see v)) is
-given_as see (Err fault) bytes is = fault_as fault bytes is
+given_as see (Err f) bytes is = fault_as f bytes is

@@ -1,5 +1,7 @@
 pub mod RunLemmas
 pub mod DigitLemmas
+pub mod Joining
+pub mod PunctTree
 pub mod Longest
 pub mod LiteralLemmas
 pub mod FrontLemmas

@@ -1,9 +1,7 @@
 -- What a source is lexed as, said of a cut of its whole text (C11 6.4p4). `lexed` is the one outcome.
-use Rattle.std.specs.Prelude.{◌≡◌, ℕ, Bool, true, false, List, [], ◌∷◌, ◌++◌, length, slice_index_or, Option, Some, None, Result, Ok, Err}
+use Rattle.std.specs.Prelude.{◌≡◌, ℕ, Bool, true, false, List, [], ◌∷◌, ◌++◌, length, slice_index_or, Option, Some, None, Result}
 use Rattle.fc_base.specs.declared.refusals.Place.{Place}
 use Rattle.fc_base.specs.declared.refusals.Refusal.{Refusal}
-use Rattle.fc_base.specs.declared.refusals.Fault.{Fault}
-use Rattle.fc_base.specs.declared.refusals.Fault.TheVariants.{Refused as Refuses, NoMemory}
 use Rattle.fc_base.specs.declared.rules.Rule.{Rule}
 use Rattle.fc_base.specs.declared.rules.Rule.TheVariants.{BadByte}
 use Rattle.c_tokens.specs.declared.tokens.Token.{Token}
@@ -13,10 +11,10 @@ use Rattle.c_tokens.specs.declared.pieces.Piece.TheVariants.{Space, Newline, Tok
 use Rattle.c_tokens.specs.Pieces.{spelled}
 use Rattle.c_lexer.specs.Places.{Cell, placed, bytes_of, places_of}
 use Rattle.c_lexer.specs.Longest.{IsLongest, TakesNone}
-use Rattle.c_lexer.specs.Lexed.{Outcome, outcome_of, opens_header, is_first, token_at}
+use Rattle.c_lexer.specs.Outcomes.{outcome_of, opens_header, is_first, token_at}
 
--- A stretch of the text, never empty, and the piece that it is. A cut lists its stretches from the last one on, so that
--- those before one are the rest of the list.
+-- A stretch of the text, never empty, and the piece that it is. A list of stretches begins with the last one, so that
+-- those before a stretch are the rest of the list.
 pub record Stretch : Type 0 where
   pub first : Cell
   pub more : List Cell
@@ -48,8 +46,7 @@ line_behind (s ∷ before) = on_line s.piece (line_behind before)
 abbrev pub is_blank : Piece → Bool
 is_blank Space = true
 is_blank Newline = true
-is_blank (TokenPiece kind) = false
-is_blank (Refused rule offset) = false
+is_blank piece = false
 
 -- white space or a comment stands last
 abbrev pub ends_blank : List Stretch → Bool
@@ -78,7 +75,8 @@ pub data Ends (before : List Stretch) : List Cell → Option Refusal → Type 0 
   at_end : Ends before [] None
   bad_byte : (c : Cell) (cs : List Cell) → TakesNone (spelled_behind before) (bytes_of (c ∷ cs))
       → Ends before (c ∷ cs) (Some (record { rule = BadByte; place = c.place }))
-  refused : (c : Cell) (cs : List Cell) (n : ℕ) (rule : Rule) (offset : ℕ) → IsLongest (spelled_behind before) (bytes_of (c ∷ cs)) n (Refused rule offset)
+  refused : (c : Cell) (cs : List Cell) (n : ℕ) (rule : Rule) (offset : ℕ)
+      → IsLongest (spelled_behind before) (bytes_of (c ∷ cs)) n (Refused rule offset)
       → Ends before (c ∷ cs) (Some (record { rule = rule; place = slice_index_or (places_of (c ∷ cs)) offset c.place }))
 
 -- ---- its tokens
@@ -93,21 +91,14 @@ unfoldable pub tokens_of : List Stretch → List Token
 tokens_of [] = []
 tokens_of (s ∷ before) = tokens_of before ++ token_in before s.first.place s.piece
 
--- The text with its lines joined is cut into its longest pieces, up to its end or the first refusal.
-pub record IsLexed (bytes : List ℕ) (outcome : Outcome) : Type 0 where
+-- The text with its lines joined is cut into its longest pieces, up to its end or the first refusal. The stretches stand
+-- from the last one on: those of `a /**/b` are `b`, `/**/`, the space and `a`, nothing is left and nothing refused, and
+-- the tokens are `a`, which starts its line, and `b`, which is spaced.
+pub record IsLexed (bytes : List ℕ) (outcome : Result (List Token) Refusal) : Type 0 where
   pub stretches : List Stretch
   pub rest : List Cell
   pub refusal : Option Refusal
-  pub text : text_of stretches ++ rest ≡ placed false 1 1 bytes
+  pub text : text_of stretches ++ rest ≡ placed bytes
   pub longest : IsEachLongest stretches rest
   pub end : Ends stretches rest refusal
   pub gives : outcome ≡ outcome_of (record { tokens = tokens_of stretches; refusal = refusal })
-
--- what a call gave, unless memory ran out
-abbrev pub IsLexingErr : Fault → List ℕ → Type 0
-IsLexingErr NoMemory bytes = Unit {0}
-IsLexingErr (Refuses refusal) bytes = IsLexed bytes (Err refusal)
-
-abbrev pub IsLexing : {X : Type 0} → (X → List Token) → Result X Fault → List ℕ → Type 0
-IsLexing see (Ok x) bytes = IsLexed bytes (Ok (see x))
-IsLexing see (Err fault) bytes = IsLexingErr fault bytes

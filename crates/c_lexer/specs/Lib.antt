@@ -1,5 +1,7 @@
 pub mod Places
+pub mod Joined
 pub mod Longest
+pub mod Outcomes
 pub mod Lexed
 pub mod Cuts
 pub mod Runs

@@ -10,7 +10,7 @@ ghost use Rattle.c_lexer.specs.Runs.{is_in, number_len, literal_end, comment_end
 use memchr::memchr;
 
 /// Which bytes go on in a piece.
-#[derive(Clone, Copy, Debug)]
+#[derive(Clone, Copy)]
 pub enum Class {
     /// Letters, digits and the underscore.
     Word,

@@ -1,13 +1,14 @@
 //! The text with its lines joined.
 
 ghost use Rattle.std.specs.Prelude.{◌≡◌, ◌<◌, length, IfOk, false};
-ghost use Rattle.c_lexer.specs.Places.{placed, begins_line, bytes_of, places_of};
+ghost use Rattle.c_lexer.specs.Places.{bytes_of, places_of};
+ghost use Rattle.c_lexer.specs.Joined.{begins_line, joined};
 
 use fc_base::Place;
 use std::alloc::{AllocError, Global};
 
 /// The bytes that are left, and the place of each in the file.
-#[derive(Debug, Drop)]
+#[derive(Drop)]
 pub struct Joined {
     pub bytes: Vec<u8>,
     pub places: Vec<Place>,
@@ -23,11 +24,11 @@ fn begins_line(bytes: &[u8]) -> bool
 }
 
 /// The bytes without each backslash that a newline follows, and without that newline.
-#[tactic(auto, unfolding(crate::specs::Places::placed))]
+#[tactic(auto, unfolding(crate::specs::Joined::joined))]
 pub fn join_lines(alloc: Global, mut bytes: &[u8]) -> Result<Joined, AllocError>
     requires { length bytes.now < 4294967295 }
-    ensures bytes { IfOk result (λ joined. joined.bytes.items ≡ bytes_of (placed false 1 1 bytes.entry.now)) }
-    ensures places { IfOk result (λ joined. joined.places.items ≡ places_of (placed false 1 1 bytes.entry.now)) }
+    ensures bytes { IfOk result (λ text. text.bytes.items ≡ bytes_of (joined false 1 1 bytes.entry.now)) }
+    ensures places { IfOk result (λ text. text.places.items ≡ places_of (joined false 1 1 bytes.entry.now)) }
 {
     let mut left = Vec::new(alloc);
     let mut places = Vec::new(alloc);

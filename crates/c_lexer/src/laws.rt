@@ -1,11 +1,13 @@
 //! Laws of lexed texts.
 
-ghost use Rattle.std.specs.Prelude.{◌≡◌, ℕ, List, Option};
+ghost use Rattle.std.specs.Prelude.{◌≡◌, ℕ, List, Option, Result};
+ghost use Rattle.fc_base.specs.declared.refusals.Refusal.{Refusal};
+ghost use Rattle.c_tokens.specs.declared.tokens.Token.{Token};
 ghost use Rattle.c_tokens.specs.declared.pieces.Piece.{Piece};
 ghost use Rattle.c_tokens.specs.declared.tokens.TokenKind.{TokenKind};
 ghost use Rattle.c_tokens.specs.Pieces.{Spells};
 ghost use Rattle.c_lexer.specs.Longest.{LongestFront, longest};
-ghost use Rattle.c_lexer.specs.Lexed.{Outcome, lexed};
+ghost use Rattle.c_lexer.specs.Lexed.{lexed};
 ghost use Rattle.c_lexer.specs.Cuts.{IsLexed};
 ghost use Rattle.c_lexer.specs.Respelled.{IsReadAs};
 
@@ -17,7 +19,8 @@ pub fn longest_fronts()
 /// A source is lexed as one list of tokens or one refusal, and `lexed` is it.
 pub fn cuts_of_sources()
     ensures each { (bytes : List ℕ) → IsLexed bytes (lexed bytes) }
-    ensures only { (bytes : List ℕ) (outcome : Outcome) → IsLexed bytes outcome → outcome ≡ lexed bytes }
+    ensures only { (bytes : List ℕ) (outcome : Result (List Token) Refusal) →
+        IsLexed bytes outcome → outcome ≡ lexed bytes }
 {}
 
 /// A spelling is read as one token of its kind.

@@ -1,6 +1,7 @@
 //! Character constants, string literals and header names (C11 6.4.4.4, 6.4.5 and 6.4.7).
 
 ghost use Rattle.std.specs.Prelude.{◌≡◌, ◌<◌, ◌^◌, true, false, length, IfOk};
+ghost use Rattle.std.specs.Str.{byte};
 ghost use Rattle.c_tokens.specs.Literals.{characters, values, string_of, constant_of, string, constant, header};
 ghost use Rattle.c_lexer.specs.Runs.{literal_front};
 
@@ -48,7 +49,7 @@ fn constant_of(body: &[u8]) -> Piece
 /// The string literal that begins before these bytes, with its length.
 pub fn string(alloc: Global, bytes: &[u8]) -> Result<(usize, Piece), NoMemory>
     requires { length bytes.now < 2 ^ 63 }
-    ensures { IfOk result (λ r. r ≡ literal_front 34 true string bytes.now) }
+    ensures { IfOk result (λ r. r ≡ literal_front (byte "\"") true string bytes.now) }
 {
     let (size, is_closed) = literal_length(b'"', true, bytes);
     if !is_closed {
@@ -61,7 +62,7 @@ pub fn string(alloc: Global, bytes: &[u8]) -> Result<(usize, Piece), NoMemory>
 /// The character constant that begins before these bytes, with its length.
 pub fn constant(bytes: &[u8]) -> (usize, Piece)
     requires { length bytes.now < 2 ^ 63 }
-    ensures { result ≡ literal_front 39 true constant bytes.now }
+    ensures { result ≡ literal_front (byte "'") true constant bytes.now }
 {
     let (size, is_closed) = literal_length(b'\'', true, bytes);
     if !is_closed {
@@ -73,7 +74,7 @@ pub fn constant(bytes: &[u8]) -> (usize, Piece)
 /// The header name that begins before these bytes, with its length.
 pub fn header(alloc: Global, bytes: &[u8]) -> Result<(usize, Piece), NoMemory>
     requires { length bytes.now < 2 ^ 63 }
-    ensures { IfOk result (λ r. r ≡ literal_front 62 false header bytes.now) }
+    ensures { IfOk result (λ r. r ≡ literal_front (byte ">") false header bytes.now) }
 {
     let (size, is_closed) = literal_length(b'>', false, bytes);
     if !is_closed {

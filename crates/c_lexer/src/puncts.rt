@@ -1,12 +1,11 @@
 //! Punctuators (C11 6.4.6).
 
 ghost use Rattle.std.specs.Prelude.{◌≡◌};
-ghost use Rattle.c_tokens.specs.Puncts.{operator, one_byte, with_assign, doubled, two_bytes, three_bytes};
-ghost use Rattle.c_lexer.specs.Runs.{first_one, first_two, first_three, first_punct};
+ghost use Rattle.c_lexer.specs.Runs.{operator, one_byte, with_assign, doubled, two_bytes, three_bytes, first_one, first_two, first_three, first_punct};
 
 use c_tokens::Punct;
 
-#[tactic(auto, unfolding(c_tokens::specs::Puncts::operator))]
+#[tactic(auto, unfolding(crate::specs::Runs::operator))]
 fn operator(a: u8) -> Option<Punct>
     ensures { result ≡ operator a }
 {
@@ -28,7 +27,7 @@ fn operator(a: u8) -> Option<Punct>
     }
 }
 
-#[tactic(auto, unfolding(c_tokens::specs::Puncts::one_byte))]
+#[tactic(auto, unfolding(crate::specs::Runs::one_byte))]
 fn one_byte(a: u8) -> Option<Punct>
     ensures { result ≡ one_byte a }
 {
@@ -50,7 +49,7 @@ fn one_byte(a: u8) -> Option<Punct>
 }
 
 /// What the byte and `=` spell.
-#[tactic(auto, unfolding(c_tokens::specs::Puncts::with_assign))]
+#[tactic(auto, unfolding(crate::specs::Runs::with_assign))]
 fn with_assign(a: u8) -> Option<Punct>
     ensures { result ≡ with_assign a }
 {
@@ -72,7 +71,7 @@ fn with_assign(a: u8) -> Option<Punct>
 }
 
 /// What the byte spells twice.
-#[tactic(auto, unfolding(c_tokens::specs::Puncts::doubled))]
+#[tactic(auto, unfolding(crate::specs::Runs::doubled))]
 fn doubled(a: u8) -> Option<Punct>
     ensures { result ≡ doubled a }
 {

@@ -2,10 +2,12 @@
 
 ghost use Rattle.std.specs.Prelude.{◌≡◌, ◌≤◌, ◌<◌, ◌^◌, length, drop, slice_index_or, false, All, IfOk};
 ghost use Rattle.fc_base.specs.declared.refusals.Place.{Place};
+ghost use Rattle.fc_base.specs.Answers.{Answers};
 ghost use Rattle.c_tokens.specs.Pieces.{IsLexedKind};
 ghost use Rattle.c_tokens.specs.Tokens.{token_limit};
-ghost use Rattle.c_lexer.specs.Lexed.{lexed, Gives, outcome_of, is_include};
-ghost use Rattle.c_lexer.specs.Cuts.{IsLexing};
+ghost use Rattle.c_lexer.specs.Outcomes.{outcome_of, is_include};
+ghost use Rattle.c_lexer.specs.Lexed.{lexed};
+ghost use Rattle.c_lexer.specs.Cuts.{IsLexed};
 ghost use Rattle.c_lexer.specs.Reading.{line_after, is_start, is_after_include, state, read_piece, read, Adds};
 ghost use Rattle.c_lexer.specs.declared.reader.Line.TheVariants.{Start};
 
@@ -13,11 +15,11 @@ use crate::bytes::rest_from;
 use crate::joined::join_lines;
 use crate::pieces::piece;
 use c_tokens::{Piece, TOKEN_LIMIT, Token, TokenKind};
-use fc_base::{Fault, Place, Refusal, Rule};
+use fc_base::{Fault, Place, Rule};
 use std::alloc::Global;
 
 /// What a line holds before a place: no token, a `#`, a `#` and `include`, or anything else.
-#[derive(Clone, Copy, Debug, PartialEq, Eq)]
+#[derive(Clone, Copy, PartialEq, Eq)]
 enum Line {
     Start,
     Hash,
@@ -26,7 +28,7 @@ enum Line {
 }
 
 /// What the tokens before a place leave: the line so far, and whether white space or a comment stands right before.
-#[derive(Clone, Copy, Debug, PartialEq, Eq)]
+#[derive(Clone, Copy)]
 struct State {
     line: Line,
     spaced: bool,
@@ -75,12 +77,6 @@ impl State {
     }
 }
 
-fn refused(rule: Rule, place: Place) -> Fault
-    ensures { result ≡ Fault.Refused (record { rule = rule; place = place }) }
-{
-    Fault::Refused(Refusal { rule, place })
-}
-
 /// The place with this offset, or else this one.
 fn place_at(places: &[Place], offset: usize, place: Place) -> Place
     ensures { result ≡ slice_index_or places.now offset place }
@@ -106,10 +102,10 @@ fn add(
     match piece {
         Piece::Space => Ok(State::new(state.line, true)),
         Piece::Newline => Ok(State::new(Line::Start, true)),
-        Piece::Refused(rule, offset) => Err(refused(rule, place_at(places, offset, place))),
+        Piece::Refused(rule, offset) => Err(Fault::refused(rule, place_at(places, offset, place))),
         Piece::Token(kind) => {
             if tokens.len() as u64 == TOKEN_LIMIT {
-                return Err(refused(Rule::LimitTokens, place));
+                return Err(Fault::refused(Rule::LimitTokens, place));
             }
             let line = state.line.after(&kind);
             let starts_line = state.line.is_start();
@@ -133,10 +129,10 @@ fn places_from(places: &[Place], at: usize) -> &[Place]
 }
 
 /// The tokens of a text with its lines joined.
-fn cut(alloc: Global, bytes: &[u8], places: &[Place]) -> Result<Vec<Token>, Fault>
+fn scan(alloc: Global, bytes: &[u8], places: &[Place]) -> Result<Vec<Token>, Fault>
     requires bound { length bytes.now < 2 ^ 63 }
     requires same { length places.now ≡ length bytes.now }
-    ensures { Gives (λ v. v.items) result (outcome_of (read (state Start false) 0 bytes.now places.now)) }
+    ensures { Answers (λ v. v.items) result (λ out. outcome_of (read (state Start false) 0 bytes.now places.now) ≡ out) }
 {
     let mut tokens = Vec::new(alloc);
     let mut state = State::new(Line::Start, false);
@@ -145,7 +141,7 @@ fn cut(alloc: Global, bytes: &[u8], places: &[Place]) -> Result<Vec<Token>, Faul
         let place = places[at];
         let front = piece(alloc, rest_from(bytes, at), state.line.is_after_include())?;
         let Some((size, piece)) = front else {
-            return Err(refused(Rule::BadByte, place));
+            return Err(Fault::refused(Rule::BadByte, place));
         };
         state = add(&mut tokens, state, piece, place, places_from(places, at))?;
         at += size;
@@ -157,10 +153,10 @@ fn cut(alloc: Global, bytes: &[u8], places: &[Place]) -> Result<Vec<Token>, Faul
 #[tactic(auto, unfolding(crate::specs::Lexed::lexed))]
 pub fn tokens(alloc: Global, bytes: &[u8]) -> Result<Vec<Token>, Fault>
     requires { length bytes.now < 4294967295 }
-    ensures cut { IsLexing (λ v. v.items) result bytes.now }
-    ensures gives { Gives (λ v. v.items) result (lexed bytes.now) }
+    ensures is { Answers (λ v. v.items) result (IsLexed bytes.now) }
+    ensures gives { Answers (λ v. v.items) result (λ out. lexed bytes.now ≡ out) }
     ensures kinds { IfOk result (λ v. All (λ t. IsLexedKind t.kind) v.items) }
 {
     let joined = join_lines(alloc, bytes)?;
-    cut(alloc, &joined.bytes, &joined.places)
+    scan(alloc, &joined.bytes, &joined.places)
 }

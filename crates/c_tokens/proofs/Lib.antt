@@ -1,5 +1,8 @@
 pub mod OctalLemmas
 pub mod LiteralSpelling
+pub mod Characters
+pub mod Shapes
+pub mod Comments
 pub mod NumberSpelling
 pub mod WordSpelling
 pub mod Spelled

@@ -1,7 +1,7 @@
 -- A literal is spelled by what stands for its bytes.
-use Rattle.std.proofs.Common.{◌≡◌, ℕ, suc, ◌+◌, ◌-◌, ◌*◌, ◌/◌, ◌%◌, ◌<◌, ◌==◌, ◌&&◌, ◌||◌, not, nat_lt, nat_le, Bool, true, false, List, [], ◌∷◌, ◌++◌, length, Some, Ok, refl, ap, ◌∙◌, append_assoc, arith}
-use Rattle.std.specs.List.{flat_map, list_all}
-use Rattle.std.specs.Char.{digit_value, is_digit}
+use Rattle.std.proofs.Common.{◌≡◌, ℕ, suc, ◌+◌, ◌-◌, ◌*◌, ◌/◌, ◌%◌, ◌^◌, ◌<◌, ◌==◌, ◌&&◌, ◌||◌, not, nat_lt, nat_le, Bool, true, false, List, [], ◌∷◌, ◌++◌, length, Some, Ok, refl, ap, ◌∙◌, append_assoc, arith}
+use Rattle.std.specs.List.{flat_map, list_all, AllByRecursion}
+use Rattle.std.specs.Char.{is_digit}
 use Rattle.std.proofs.Math.Bool.{and-false}
 use Rattle.std.proofs.lemmas.List.{length-append}
 use Rattle.std.proofs.Math.Seq.{take-append_seam}
@@ -12,11 +12,9 @@ use Rattle.c_tokens.specs.declared.pieces.Piece.TheVariants.{Token}
 use Rattle.c_tokens.specs.Literals.{closed, shape, simple_escape, byte_value, escape, Character, character, characters, valued, values, body_of}
 use Rattle.c_tokens.specs.Pieces.{in_header, spelled}
 use Rattle.c_tokens.specs.Spelling.{octal_digit, escaped, quoted}
+use Rattle.c_tokens.proofs.OctalLemmas.{octal_digit_value, octal_digit_passes}
 
 -- ---- one byte
-
-octal_value : (d : ℕ) → d < 8 → digit_value (octal_digit d) ≡ d
-octal_value d lt = grind (arith, nat_tests)
 
 -- how the byte is written
 data Written (b : ℕ) : Type 0 where
@@ -36,26 +34,28 @@ written b = written_as b (b == 34 || b == 39 || b == 92) (nat_le 32 b && nat_le 
 -- ---- where the literal ends
 
 -- what a closing byte is none of
-record IsQuote (close : ℕ) : Type 0 where
-  newline : (close == 10) ≡ false
-  same : (close == close) ≡ true
-  backslash : (92 == close) ≡ false
-  plain : (b : ℕ) → (b == 34) ≡ false → (b == 39) ≡ false → (b == close) ≡ false
-  digit : (d : ℕ) → (octal_digit d == close) ≡ false
+pub record IsQuote (close : ℕ) : Type 0 where
+  pub newline : (close == 10) ≡ false
+  pub same : (close == close) ≡ true
+  pub backslash : (92 == close) ≡ false
+  pub plain : (b : ℕ) → (b == 34) ≡ false → (b == 39) ≡ false → (b == close) ≡ false
+  pub digit : (d : ℕ) → (octal_digit d == close) ≡ false
 
-shape_plain : (close b : ℕ) (bs : List ℕ) → (b == 10) ≡ false → (b == close) ≡ false → (b == 92) ≡ false → shape close true false (b ∷ bs) ≡ shape close true false bs
+pub shape_plain : (close b : ℕ) (bs : List ℕ) → (b == 10) ≡ false → (b == close) ≡ false → (b == 92) ≡ false
+    → shape close true false (b ∷ bs) ≡ shape close true false bs
 unfolding shape
 shape_plain close b bs e f g = rw (e, f, g) refl
 
-shape_escaped : (close b : ℕ) (bs : List ℕ) → (b == 10) ≡ false → shape close true true (b ∷ bs) ≡ shape close true false bs
+pub shape_escaped : (close b : ℕ) (bs : List ℕ) → (b == 10) ≡ false → shape close true true (b ∷ bs) ≡ shape close true false bs
 unfolding shape
 shape_escaped close b bs e = rw (e, and-false (b == close), and-false (b == 92)) refl
 
-shape_backslash : (close : ℕ) (bs : List ℕ) → (92 == close) ≡ false → shape close true false (92 ∷ bs) ≡ shape close true true bs
+pub shape_backslash : (close : ℕ) (bs : List ℕ) → (92 == close) ≡ false → shape close true false (92 ∷ bs) ≡ shape close true true bs
 unfolding shape
 shape_backslash close bs e = rw e refl
 
-shape_byte : (close b : ℕ) (rest : List ℕ) → IsQuote close → Written b → shape close true false (escaped b ++ rest) ≡ shape close true false rest
+shape_byte : (close b : ℕ) (rest : List ℕ) → IsQuote close → Written b
+    → shape close true false (escaped b ++ rest) ≡ shape close true false rest
 shape_byte close b rest q (behind e w) =
     let ten : (b == 10) ≡ false = grind (arith, nat_tests) in
     rw w (shape_backslash close (b ∷ rest) q.backslash ∙ shape_escaped close b rest ten)
@@ -76,7 +76,8 @@ shape_byte close b rest q (octal w) =
 shape_all : (close : ℕ) (bytes : List ℕ) → IsQuote close → shape close true false (flat_map escaped bytes ++ close ∷ []) ≡ Some closed
 unfolding shape
 shape_all close [] q = rw (q.newline, q.same) refl
-shape_all close (b ∷ bs) q = ap (shape close true false) (append_assoc (escaped b) (flat_map escaped bs) (close ∷ [])) ∙ shape_byte close b (flat_map escaped bs ++ close ∷ []) q (written b) ∙ shape_all close bs q
+shape_all close (b ∷ bs) q = ap (shape close true false) (append_assoc (escaped b) (flat_map escaped bs) (close ∷ []))
+    ∙ shape_byte close b (flat_map escaped bs ++ close ∷ []) q (written b) ∙ shape_all close bs q
 
 body_push : (xs : List ℕ) (c : ℕ) → body_of (xs ++ c ∷ []) ≡ xs
 body_push xs c =
@@ -93,25 +94,24 @@ escape_behind b rest e =
     let simple : (b == 39 || b == 34 || b == 63 || b == 92) ≡ true = grind (arith, nat_tests) in
     rw (digit, x, simple) refl
 
-digit_passes : (d : ℕ) → d < 8 → is_digit (octal_digit d) 8 ≡ true
-digit_passes d lt = grind (arith, nat_tests)
-
-byte_of : (a b c n : ℕ) → a < 8 → b < 8 → c < 8 → (a * 8 + b) * 8 + c ≡ n → n < 256 → byte_value 8 (octal_digit a ∷ octal_digit b ∷ octal_digit c ∷ []) ≡ Some n
+byte_of : (a b c n : ℕ) → a < 8 → b < 8 → c < 8 → (a * 8 + b) * 8 + c ≡ n → n < 256
+    → byte_value 8 (octal_digit a ∷ octal_digit b ∷ octal_digit c ∷ []) ≡ Some n
 byte_of a b c n la lb lc e lt =
     let t : nat_lt n 256 ≡ true = lt-ltb n 256 lt in
     let e' : ((0 * 8 + a) * 8 + b) * 8 + c ≡ n = omega arith in
-    rw (octal_value a la, octal_value b lb, octal_value c lc, e', t) refl
+    rw (octal_digit_value a la, octal_digit_value b lb, octal_digit_value c lc, e', t) refl
 
 escape_octal : (a b c n : ℕ) (rest : List ℕ) → a < 8 → b < 8 → c < 8 → (a * 8 + b) * 8 + c ≡ n → n < 256
     → escape (octal_digit a ∷ octal_digit b ∷ octal_digit c ∷ rest) ≡ (3, Some n)
 unfolding escape
-escape_octal a b c n rest la lb lc e lt = rw (digit_passes a la, digit_passes b lb, digit_passes c lc) (ap (λ v. (3, v)) (byte_of a b c n la lb lc e lt))
+escape_octal a b c n rest la lb lc e lt = rw (octal_digit_passes a la, octal_digit_passes b lb, octal_digit_passes c lc) (ap (λ v. (3, v)) (byte_of a b c n la lb lc e lt))
 
 -- a character that is this byte, and the characters behind it
 abbrev then_at : ℕ → ℕ → ℕ → List ℕ → List Character
 then_at offset b size rest = character offset (Some b) ∷ characters (offset + size) 0 rest
 
-character_byte : (offset b : ℕ) (rest : List ℕ) → b < 256 → Written b → characters offset 0 (escaped b ++ rest) ≡ then_at offset b (length (escaped b)) rest
+character_byte : (offset b : ℕ) (rest : List ℕ) → b < 256 → Written b
+    → characters offset 0 (escaped b ++ rest) ≡ then_at offset b (length (escaped b)) rest
 unfolding characters
 character_byte offset b rest lt (behind e w) =
     let two : offset + 2 ≡ suc (suc offset) = omega arith in
@@ -123,27 +123,27 @@ character_byte offset b rest lt (octal w) =
     let four : offset + 4 ≡ suc (suc (suc (suc offset))) = omega arith in
     rw (w, four, escape_octal (b / 64) (b / 8 % 8) (b % 8) b rest (omega arith) (omega arith) (omega arith) (omega arith) lt) refl
 
-value_byte : (offset b : ℕ) (cs : List Character) (vs : List ℕ) → values cs ≡ Ok vs → values (character offset (Some b) ∷ cs) ≡ Ok (b ∷ vs)
+value_byte : (offset b : ℕ) (cs : List Character) (vs : List ℕ) → values cs ≡ Ok vs
+    → values (character offset (Some b) ∷ cs) ≡ Ok (b ∷ vs)
 unfolding values
 value_byte offset b cs vs e = ap (valued offset (Some b)) e
 
--- each number is a byte
-pub data AreBytes : List ℕ → Type 0 where
-  none : AreBytes []
-  more : {b : ℕ} {bs : List ℕ} → b < 256 → AreBytes bs → AreBytes (b ∷ bs)
+abbrev pub AreBytes : List ℕ → Type 0
+AreBytes = AllByRecursion (λ b. b < 2 ^ 8)
 
 values_all : (offset : ℕ) (bytes : List ℕ) → AreBytes bytes → values (characters offset 0 (flat_map escaped bytes)) ≡ Ok bytes
 unfolding characters values
-values_all offset [] none = refl
-values_all offset (b ∷ bs) (more lt are) =
-    ap values (character_byte offset b (flat_map escaped bs) lt (written b)) ∙ value_byte offset b (characters (offset + length (escaped b)) 0 (flat_map escaped bs)) bs (values_all (offset + length (escaped b)) bs are)
+values_all offset [] are = refl
+values_all offset (b ∷ bs) are =
+    ap values (character_byte offset b (flat_map escaped bs) are.0 (written b))
+    ∙ value_byte offset b (characters (offset + length (escaped b)) 0 (flat_map escaped bs)) bs (values_all (offset + length (escaped b)) bs are.1)
 
 -- ---- strings, constants and header names
 
-double : IsQuote 34
+pub double : IsQuote 34
 double = record { newline = refl; same = refl; backslash = refl; plain = λ b e f. e; digit = λ d. grind (arith, nat_tests) }
 
-single : IsQuote 39
+pub single : IsQuote 39
 single = record { newline = refl; same = refl; backslash = refl; plain = λ b e f. f; digit = λ d. grind (arith, nat_tests) }
 
 pub spells_string : (bytes : List ℕ) → AreBytes bytes → spelled false (quoted 34 bytes) ≡ Some (Token (k.Str bytes))
@@ -158,7 +158,8 @@ pub spells_constant : (b : ℕ) → b < 256 → spelled false (quoted 39 (b ∷ 
 unfolding spelled
 spells_constant b lt = rw (shape_all 39 (b ∷ []) single, body_push (flat_map escaped (b ∷ [])) 39, one_more b lt) refl
 
-header_step : (b : ℕ) (bs : List ℕ) (v w : Bool) → (b == 10) ≡ v → (b == 62) ≡ w → not (v || w) ≡ true → shape 62 false false (b ∷ bs) ≡ shape 62 false false bs
+header_step : (b : ℕ) (bs : List ℕ) (v w : Bool) → (b == 10) ≡ v → (b == 62) ≡ w → not (v || w) ≡ true
+    → shape 62 false false (b ∷ bs) ≡ shape 62 false false bs
 unfolding shape
 header_step b bs true w e f out = absurd cc
 header_step b bs false true e f out = absurd cc
@@ -171,6 +172,7 @@ shape_header (b ∷ bs) all =
     let parts = and_parts (in_header b) (list_all in_header bs) all in
     header_step b (bs ++ 62 ∷ []) (b == 10) (b == 62) refl refl parts.0 ∙ shape_header bs parts.1
 
-pub spells_header : (name : List ℕ) → list_all in_header name ≡ true → spelled true (60 ∷ name ++ 62 ∷ []) ≡ Some (Token (k.HeaderName name))
+pub spells_header : (name : List ℕ) → list_all in_header name ≡ true
+    → spelled true (60 ∷ name ++ 62 ∷ []) ≡ Some (Token (k.HeaderName name))
 unfolding spelled
 spells_header name all = rw (shape_header name all, body_push name 62) refl

@@ -17,6 +17,7 @@ use Rattle.c_tokens.specs.Bytes.{is_space, is_newline, begins_name, goes_on, is_
 use Rattle.c_tokens.specs.Numbers.{all_in_number, in_number, suffix_of, integer_in, is_hexadecimal, number}
 use Rattle.c_tokens.specs.Pieces.{spelled}
 use Rattle.c_tokens.specs.Spelling.{octal_digit, suffix_text, number_text}
+use Rattle.c_tokens.proofs.OctalLemmas.{octal_digit_value, octal_digit_passes}
 
 -- ---- digits
 
@@ -86,7 +87,8 @@ suffixes false (suc (suc (suc n))) le = absurd (omega arith)
 
 -- ---- literals
 
-integer_is : (base value : ℕ) (ds text : List ℕ) (unsigned : Bool) (longs : ℕ) → all_digits base ds ≡ true → 0 < length ds → digits_value base ds ≡ value → value < 2 ^ 64
+integer_is : (base value : ℕ) (ds text : List ℕ) (unsigned : Bool) (longs : ℕ) → all_digits base ds ≡ true → 0 < length ds
+    → digits_value base ds ≡ value → value < 2 ^ 64
     → prefix_len (λ b. is_digit b base) text ≡ 0 → suffix_of text ≡ Some (unsigned, longs)
     → integer_in base (ds ++ text) ≡ Token (k.Number value (record { decimal = base == 10; unsigned = unsigned; longs = longs }))
 integer_is base value ds text unsigned longs all some e small stops says =
@@ -103,7 +105,8 @@ not_hexadecimal : (a : ℕ) (bs : List ℕ) → (a == 48) ≡ false → is_hexad
 not_hexadecimal a [] e = refl
 not_hexadecimal a (b ∷ bs) e = rw e refl
 
-spelled_number : (b : ℕ) (bs : List ℕ) → is_ascii_digit b ≡ true → list_all goes_on bs ≡ true → spelled false (b ∷ bs) ≡ Some (number (b ∷ bs))
+spelled_number : (b : ℕ) (bs : List ℕ) → is_ascii_digit b ≡ true → list_all goes_on bs ≡ true
+    → spelled false (b ∷ bs) ≡ Some (number (b ∷ bs))
 unfolding spelled
 spelled_number b bs e all =
     let space : is_space b ≡ false = grind (arith, nat_tests) in
@@ -111,7 +114,8 @@ spelled_number b bs e all =
     let letter : begins_name b ≡ false = grind (arith, nat_tests) in
     rw (space, newline, letter, e, all_in b bs all) refl
 
-decimal_number : (value d : ℕ) (ds text : List ℕ) (unsigned : Bool) (longs : ℕ) → (d == 48) ≡ false → all_digits 10 (d ∷ ds) ≡ true → digits_value 10 (d ∷ ds) ≡ value → value < 2 ^ 64 → IsSuffix text unsigned longs
+decimal_number : (value d : ℕ) (ds text : List ℕ) (unsigned : Bool) (longs : ℕ) → (d == 48) ≡ false → all_digits 10 (d ∷ ds) ≡ true
+    → digits_value 10 (d ∷ ds) ≡ value → value < 2 ^ 64 → IsSuffix text unsigned longs
     → spelled false (d ∷ ds ++ text) ≡ Some (Token (k.Number value (record { decimal = true; unsigned = unsigned; longs = longs })))
 unfolding number
 decimal_number value d ds text unsigned longs first all e small s =
@@ -128,7 +132,8 @@ octal_plain (d ∷ ds) text all e =
     no_x : (d : ℕ) → is_digit d 8 ≡ true → (d == 120 || d == 88) ≡ false
     no_x d e = grind (arith, nat_tests)
 
-octal_number : (value : ℕ) (ds text : List ℕ) (unsigned : Bool) (longs : ℕ) → all_digits 8 ds ≡ true → digits_value 8 (48 ∷ ds) ≡ value → value < 2 ^ 64 → IsSuffix text unsigned longs
+octal_number : (value : ℕ) (ds text : List ℕ) (unsigned : Bool) (longs : ℕ) → all_digits 8 ds ≡ true → digits_value 8 (48 ∷ ds) ≡ value
+    → value < 2 ^ 64 → IsSuffix text unsigned longs
     → spelled false (48 ∷ ds ++ text) ≡ Some (Token (k.Number value (record { decimal = false; unsigned = unsigned; longs = longs })))
 unfolding number
 octal_number value ds text unsigned longs all e small s =
@@ -139,17 +144,11 @@ octal_number value ds text unsigned longs all e small s =
 
 octal_all : (ds : List ℕ) → AllBelowBase 8 ds → all_digits 8 (map octal_digit ds) ≡ true
 octal_all [] all = refl
-octal_all (d ∷ ds) all = let t : is_digit (octal_digit d) 8 ≡ true = passes d all.0 in rw t (octal_all ds all.1)
-  where
-    passes : (d : ℕ) → d < 8 → is_digit (octal_digit d) 8 ≡ true
-    passes d lt = grind (arith, nat_tests)
+octal_all (d ∷ ds) all = rw (octal_digit_passes d all.0) (octal_all ds all.1)
 
 octal_values : (ds : List ℕ) → AllBelowBase 8 ds → map digit_value (map octal_digit ds) ≡ ds
 octal_values [] all = refl
-octal_values (d ∷ ds) all = let e : digit_value (octal_digit d) ≡ d = value d all.0 in rw e (ap (λ xs. d ∷ xs) (octal_values ds all.1))
-  where
-    value : (d : ℕ) → d < 8 → digit_value (octal_digit d) ≡ d
-    value d lt = grind (arith, nat_tests)
+octal_values (d ∷ ds) all = rw (octal_digit_value d all.0) (ap (λ xs. d ∷ xs) (octal_values ds all.1))
 
 octal_value : (value : ℕ) → digits_value 8 (48 ∷ map octal_digit (digits_of 8 value)) ≡ value
 octal_value value =
@@ -157,12 +156,14 @@ octal_value value =
     ∙ ap (number_from_digits 8) (octal_values (digits_of 8 value) (all_below_base_digits_of 8 value (omega arith)))
     ∙ number_digits_of 8 value (omega arith)
 
-decimal_text : (value : ℕ) (ds text : List ℕ) (unsigned : Bool) (longs : ℕ) → 0 < length ds → 48 < get_or ds 0 0 → all_digits 10 ds ≡ true → digits_value 10 ds ≡ value → value < 2 ^ 64 → IsSuffix text unsigned longs
+decimal_text : (value : ℕ) (ds text : List ℕ) (unsigned : Bool) (longs : ℕ) → 0 < length ds → 48 < get_or ds 0 0 → all_digits 10 ds ≡ true
+    → digits_value 10 ds ≡ value → value < 2 ^ 64 → IsSuffix text unsigned longs
     → spelled false (ds ++ text) ≡ Some (Token (k.Number value (record { decimal = true; unsigned = unsigned; longs = longs })))
 decimal_text value [] text unsigned longs some first all e small s = absurd (omega arith)
 decimal_text value (d ∷ ds) text unsigned longs some first all e small s = decimal_number value d ds text unsigned longs (grind (arith, nat_tests)) all e small s
 
-pub spells_number : (value : ℕ) (kind : NumberKind) → value < 2 ^ 64 → kind.longs ≤ 2 → (kind.decimal ≡ true → 0 < value) → spelled false (number_text value kind) ≡ Some (Token (k.Number value kind))
+pub spells_number : (value : ℕ) (kind : NumberKind) → value < 2 ^ 64 → kind.longs ≤ 2 → (kind.decimal ≡ true → 0 < value)
+    → spelled false (number_text value kind) ≡ Some (Token (k.Number value kind))
 spells_number value kind small longs positive = by_base kind.decimal refl
   where
     by_base : (v : Bool) → kind.decimal ≡ v → spelled false (number_text value kind) ≡ Some (Token (k.Number value kind))

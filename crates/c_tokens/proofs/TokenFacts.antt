@@ -15,7 +15,7 @@ use Rattle.c_tokens.specs.declared.pieces.Piece.TheVariants.{Space, Newline, Tok
 use Rattle.c_tokens.specs.Bytes.{is_space, is_newline, begins_name, goes_on, is_empty}
 use Rattle.c_tokens.specs.Puncts.{punct_spelling, punctuator}
 use Rattle.c_tokens.specs.Numbers.{in_number, all_in_number, is_ll, is_u, is_l, suffix_of, number_kind, integer, integer_in, is_hexadecimal, begins_zero, number}
-use Rattle.c_tokens.specs.Literals.{Shape, closed, unclosed, shape, Character, characters, values, body_of, string_of, constant_of, one_character, string, constant, header, literal}
+use Rattle.c_tokens.specs.Literals.{Shape, closed, unclosed, shape, Character, characters, values, body_of, string_of, constant_of, one_character, string, constant, header, literal_piece}
 use Rattle.c_tokens.specs.Pieces.{alone, word, is_prefixed, number_from, comment, punct_piece, after_slash, after_dot, spelled, in_header, IsLexedKind}
 use Rattle.c_tokens.proofs.PunctLaw.{punct_text}
 
@@ -46,7 +46,8 @@ words_on (b ∷ bs) all =
 letter_on : (b : ℕ) → begins_name b ≡ true → not (is_newline b) ≡ true
 letter_on b e = grind (arith, nat_tests)
 
-word_facts : (b : ℕ) (bs : List ℕ) (kind : TokenKind) (v w : Bool) → list_all goes_on bs ≡ v → is_prefixed (b ∷ bs) ≡ w → begins_name b ≡ true → word b bs ≡ Some (Token kind) → Facts (b ∷ bs) kind
+word_facts : (b : ℕ) (bs : List ℕ) (kind : TokenKind) (v w : Bool) → list_all goes_on bs ≡ v → is_prefixed (b ∷ bs) ≡ w
+    → begins_name b ≡ true → word b bs ≡ Some (Token kind) → Facts (b ∷ bs) kind
 word_facts b bs kind true w e f letter is =
     let is' : Some (Token (k.Name (b ∷ bs))) ≡ Some (Token kind) = rw e at is in
     facts_at (b ∷ bs) (k.Name (b ∷ bs)) kind (same_kind (k.Name (b ∷ bs)) kind is') (record { lexed = rw letter e; line = rw (letter_on b letter) (words_on bs e) })
@@ -57,55 +58,10 @@ word_facts b bs kind false false e f letter is = let nothing : None ≡ Some (To
 
 spelling_on : (punct : Punct) → on_line (punct_spelling punct) ≡ true
 spelling_on p.LeftBracket = refl
-spelling_on p.RightBracket = refl
-spelling_on p.LeftParen = refl
-spelling_on p.RightParen = refl
-spelling_on p.LeftBrace = refl
-spelling_on p.RightBrace = refl
-spelling_on p.Dot = refl
-spelling_on p.Arrow = refl
-spelling_on p.PlusPlus = refl
-spelling_on p.MinusMinus = refl
-spelling_on p.Ampersand = refl
-spelling_on p.Star = refl
-spelling_on p.Plus = refl
-spelling_on p.Minus = refl
-spelling_on p.Tilde = refl
-spelling_on p.Exclamation = refl
-spelling_on p.Slash = refl
-spelling_on p.Percent = refl
-spelling_on p.ShiftLeft = refl
-spelling_on p.ShiftRight = refl
-spelling_on p.Less = refl
-spelling_on p.Greater = refl
-spelling_on p.LessEqual = refl
-spelling_on p.GreaterEqual = refl
-spelling_on p.EqualEqual = refl
-spelling_on p.NotEqual = refl
-spelling_on p.Caret = refl
-spelling_on p.Bar = refl
-spelling_on p.AndAnd = refl
-spelling_on p.OrOr = refl
-spelling_on p.Question = refl
-spelling_on p.Colon = refl
-spelling_on p.Semicolon = refl
-spelling_on p.Ellipsis = refl
-spelling_on p.Assign = refl
-spelling_on p.StarAssign = refl
-spelling_on p.SlashAssign = refl
-spelling_on p.PercentAssign = refl
-spelling_on p.PlusAssign = refl
-spelling_on p.MinusAssign = refl
-spelling_on p.ShiftLeftAssign = refl
-spelling_on p.ShiftRightAssign = refl
-spelling_on p.AmpersandAssign = refl
-spelling_on p.CaretAssign = refl
-spelling_on p.BarAssign = refl
-spelling_on p.Comma = refl
-spelling_on p.Hash = refl
-spelling_on p.HashHash = refl
+spelling_on _ = refl
 
-punct_found : (text : List ℕ) (kind : TokenKind) (o : Option Punct) → punctuator text ≡ o → option_map (λ p. Token (k.Punct p)) o ≡ Some (Token kind) → Facts text kind
+punct_found : (text : List ℕ) (kind : TokenKind) (o : Option Punct) → punctuator text ≡ o
+    → option_map (λ p. Token (k.Punct p)) o ≡ Some (Token kind) → Facts text kind
 punct_found text kind None e is = absurd cc
 punct_found text kind (Some punct) e is =
     facts_at text (k.Punct punct) kind (same_kind (k.Punct punct) kind is) (record { lexed = tt; line = ap on_line (punct_text text punct e) ∙ spelling_on punct })
@@ -115,7 +71,8 @@ punct_facts text kind is = punct_found text kind (punctuator text) refl is
 
 -- ---- comments
 
-comment_step : (star : Bool) (b : ℕ) (bs : List ℕ) (kind : TokenKind) (v : Bool) → (star && b == 47) ≡ v → (comment (b == 42) bs ≡ Some (Token kind) → ⊥) → comment star (b ∷ bs) ≡ Some (Token kind) → ⊥
+comment_step : (star : Bool) (b : ℕ) (bs : List ℕ) (kind : TokenKind) (v : Bool) → (star && b == 47) ≡ v
+    → (comment (b == 42) bs ≡ Some (Token kind) → ⊥) → comment star (b ∷ bs) ≡ Some (Token kind) → ⊥
 unfolding comment
 comment_step star b [] kind true e so is = let piece : Some Space ≡ Some (Token kind) = rw e at is in cc
 comment_step star b (c ∷ bs) kind true e so is = let piece : None ≡ Some (Token kind) = rw e at is in cc
@@ -130,7 +87,8 @@ line_none : (v : Bool) (kind : TokenKind) → (if v then Some Space else None) �
 line_none true kind is = cc
 line_none false kind is = cc
 
-slash_step : (b : ℕ) (bs : List ℕ) (kind : TokenKind) (v w : Bool) → (b == 47) ≡ v → (b == 42) ≡ w → after_slash (b ∷ bs) ≡ Some (Token kind) → Facts (47 ∷ b ∷ bs) kind
+slash_step : (b : ℕ) (bs : List ℕ) (kind : TokenKind) (v w : Bool) → (b == 47) ≡ v → (b == 42) ≡ w
+    → after_slash (b ∷ bs) ≡ Some (Token kind) → Facts (47 ∷ b ∷ bs) kind
 slash_step b bs kind true w e f is = absurd (line_none (list_all (λ c. not (is_newline c)) bs) kind (rw e at is))
 slash_step b bs kind false true e f is = absurd (comment_none false bs kind (rw (e, f) at is))
 slash_step b bs kind false false e f is = punct_facts (47 ∷ b ∷ bs) kind (rw (e, f) at is)
@@ -150,7 +108,8 @@ numbers_on before (b ∷ bs) all =
     let parts = and_parts (in_number before b) (all_in_number b bs) all in
     rw (number_on before b parts.0) (numbers_on b bs parts.1)
 
-suffix_pick : (v x : Bool) (n : ℕ) (rest : Option (Bool × ℕ)) (s : Bool × ℕ) → n ≤ 2 → (rest ≡ Some s → s.1 ≤ 2) → (if v then Some (x, n) else rest) ≡ Some s → s.1 ≤ 2
+suffix_pick : (v x : Bool) (n : ℕ) (rest : Option (Bool × ℕ)) (s : Bool × ℕ) → n ≤ 2 → (rest ≡ Some s → s.1 ≤ 2)
+    → (if v then Some (x, n) else rest) ≡ Some s → s.1 ≤ 2
 suffix_pick true x n rest s le so is =
     let pair : (x, n) ≡ s = cc in
     let same : n ≡ s.1 = ap (λ (r : Bool × ℕ). r.1) pair in
@@ -176,7 +135,8 @@ digits_grow n (d ∷ ds) = let so = digits_grow (n * 10 + digit_value d) ds in o
 digit_positive : (d : ℕ) → is_digit d 10 ≡ true → (d == 48) ≡ false → 0 < digit_value d
 digit_positive d e f = grind (arith, nat_tests)
 
-positive_step : (a : ℕ) (rest : List ℕ) (v : Bool) → is_digit a 10 ≡ v → (a == 48) ≡ false → is_empty (take_while (λ b. is_digit b 10) (a ∷ rest)) ≡ false → 0 < digits_value 10 (take_while (λ b. is_digit b 10) (a ∷ rest))
+positive_step : (a : ℕ) (rest : List ℕ) (v : Bool) → is_digit a 10 ≡ v → (a == 48) ≡ false
+    → is_empty (take_while (λ b. is_digit b 10) (a ∷ rest)) ≡ false → 0 < digits_value 10 (take_while (λ b. is_digit b 10) (a ∷ rest))
 positive_step a rest true e other some =
     let one : 1 + prefix_len (λ b. is_digit b 10) rest ≡ suc (prefix_len (λ b. is_digit b 10) rest) = omega arith in
     let grow = digits_grow (0 * 10 + digit_value a) (take (prefix_len (λ b. is_digit b 10) rest) rest) in
@@ -184,7 +144,8 @@ positive_step a rest true e other some =
     rw (e, one) (omega (arith, grow, more))
 positive_step a rest false e other some = let none : true ≡ false = rw e at some in absurd cc
 
-positive : (text : List ℕ) → begins_zero text ≡ false → is_empty (take_while (λ b. is_digit b 10) text) ≡ false → 0 < digits_value 10 (take_while (λ b. is_digit b 10) text)
+positive : (text : List ℕ) → begins_zero text ≡ false → is_empty (take_while (λ b. is_digit b 10) text) ≡ false
+    → 0 < digits_value 10 (take_while (λ b. is_digit b 10) text)
 positive [] other some = absurd cc
 positive (a ∷ rest) other some = positive_step a rest (is_digit a 10) refl other some
 
@@ -194,8 +155,10 @@ lexed_at a b e h = let P : TokenKind → Type 0 = λ kind. IsLexedKind kind in s
 token_kind : (a b : TokenKind) → Token a ≡ Token b → a ≡ b
 token_kind a b e = cc
 
-integer_step : (base : ℕ) (digits text : List ℕ) (s : Bool × ℕ) (kind : TokenKind) (v w : Bool) → is_empty digits ≡ v → nat_lt (digits_value base digits) (2 ^ 64) ≡ w → suffix_of text ≡ Some s
-    → ((base == 10) ≡ true → is_empty digits ≡ false → 0 < digits_value base digits) → integer base digits (Some s) ≡ Token kind → IsLexedKind kind
+integer_step : (base : ℕ) (digits text : List ℕ) (s : Bool × ℕ) (kind : TokenKind) (v w : Bool) → is_empty digits ≡ v
+    → nat_lt (digits_value base digits) (2 ^ 64) ≡ w → suffix_of text ≡ Some s
+    → ((base == 10) ≡ true → is_empty digits ≡ false → 0 < digits_value base digits) → integer base digits (Some s) ≡ Token kind
+    → IsLexedKind kind
 integer_step base digits text s kind true w e f suffix pos is = let no_token : Refused LeftOutLiteral 0 ≡ Token kind = rw e at is in absurd cc
 integer_step base digits text s kind false true e f suffix pos is =
     let is' : Token (k.Number (digits_value base digits) (number_kind base s)) ≡ Token kind = rw (e, f) at is in
@@ -203,21 +166,26 @@ integer_step base digits text s kind false true e f suffix pos is =
     (ltb-true (digits_value base digits) (2 ^ 64) f, suffix_longs text s suffix, λ t. pos t e)
 integer_step base digits text s kind false false e f suffix pos is = let no_token : Refused BigNumber 0 ≡ Token kind = rw (e, f) at is in absurd cc
 
-integer_facts : (base : ℕ) (digits text : List ℕ) (o : Option (Bool × ℕ)) (kind : TokenKind) → suffix_of text ≡ o → ((base == 10) ≡ true → is_empty digits ≡ false → 0 < digits_value base digits) → integer base digits o ≡ Token kind → IsLexedKind kind
+integer_facts : (base : ℕ) (digits text : List ℕ) (o : Option (Bool × ℕ)) (kind : TokenKind) → suffix_of text ≡ o
+    → ((base == 10) ≡ true → is_empty digits ≡ false → 0 < digits_value base digits) → integer base digits o ≡ Token kind
+    → IsLexedKind kind
 integer_facts base digits text None kind suffix pos is = absurd cc
 integer_facts base digits text (Some s) kind suffix pos is = integer_step base digits text s kind (is_empty digits) (nat_lt (digits_value base digits) (2 ^ 64)) refl refl suffix pos is
 
-in_base : (base : ℕ) (body : List ℕ) (kind : TokenKind) → ((base == 10) ≡ true → is_empty (take_while (λ b. is_digit b base) body) ≡ false → 0 < digits_value base (take_while (λ b. is_digit b base) body)) → integer_in base body ≡ Token kind → IsLexedKind kind
+in_base : (base : ℕ) (body : List ℕ) (kind : TokenKind)
+    → ((base == 10) ≡ true → is_empty (take_while (λ b. is_digit b base) body) ≡ false → 0 < digits_value base (take_while (λ b. is_digit b base) body)) → integer_in base body ≡ Token kind → IsLexedKind kind
 in_base base body kind pos is =
     integer_facts base (take_while (λ b. is_digit b base) body) (drop (prefix_len (λ b. is_digit b base) body) body) (suffix_of (drop (prefix_len (λ b. is_digit b base) body) body)) kind refl pos is
 
-number_step : (text : List ℕ) (kind : TokenKind) (v w : Bool) → is_hexadecimal text ≡ v → begins_zero text ≡ w → number text ≡ Token kind → IsLexedKind kind
+number_step : (text : List ℕ) (kind : TokenKind) (v w : Bool) → is_hexadecimal text ≡ v → begins_zero text ≡ w → number text ≡ Token kind
+    → IsLexedKind kind
 unfolding number
 number_step text kind true w e f is = in_base 16 (drop 2 text) kind (λ t. absurd cc) (rw e at is)
 number_step text kind false true e f is = in_base 8 text kind (λ t. absurd cc) (rw (e, f) at is)
 number_step text kind false false e f is = in_base 10 text kind (λ t some. positive text f some) (rw (e, f) at is)
 
-number_facts : (text : List ℕ) (before : ℕ) (bs : List ℕ) (kind : TokenKind) (v : Bool) → all_in_number before bs ≡ v → number_from text before bs ≡ Some (Token kind) → IsLexedKind kind × (on_line bs ≡ true)
+number_facts : (text : List ℕ) (before : ℕ) (bs : List ℕ) (kind : TokenKind) (v : Bool) → all_in_number before bs ≡ v
+    → number_from text before bs ≡ Some (Token kind) → IsLexedKind kind × (on_line bs ≡ true)
 number_facts text before bs kind true e is =
     let is' : Some (number text) ≡ Some (Token kind) = rw e at is in
     let token : number text ≡ Token kind = cc in
@@ -227,12 +195,14 @@ number_facts text before bs kind false e is = let nothing : None ≡ Some (Token
 digit_on : (b : ℕ) → is_ascii_digit b ≡ true → not (is_newline b) ≡ true
 digit_on b e = grind (arith, nat_tests)
 
-digits_facts : (b : ℕ) (bs : List ℕ) (kind : TokenKind) → is_ascii_digit b ≡ true → number_from (b ∷ bs) b bs ≡ Some (Token kind) → Facts (b ∷ bs) kind
+digits_facts : (b : ℕ) (bs : List ℕ) (kind : TokenKind) → is_ascii_digit b ≡ true → number_from (b ∷ bs) b bs ≡ Some (Token kind)
+    → Facts (b ∷ bs) kind
 digits_facts b bs kind digit is =
     let facts = number_facts (b ∷ bs) b bs kind (all_in_number b bs) refl is in
     record { lexed = facts.0; line = rw (digit_on b digit) facts.1 }
 
-dot_step : (b : ℕ) (bs : List ℕ) (kind : TokenKind) (v : Bool) → is_ascii_digit b ≡ v → after_dot (b ∷ bs) ≡ Some (Token kind) → Facts (46 ∷ b ∷ bs) kind
+dot_step : (b : ℕ) (bs : List ℕ) (kind : TokenKind) (v : Bool) → is_ascii_digit b ≡ v → after_dot (b ∷ bs) ≡ Some (Token kind)
+    → Facts (46 ∷ b ∷ bs) kind
 dot_step b bs kind true e is =
     let facts = number_facts (46 ∷ b ∷ bs) b bs kind (all_in_number b bs) refl (rw e at is) in
     record { lexed = facts.0; line = rw (digit_on b e) facts.1 }
@@ -244,8 +214,10 @@ dot_facts (b ∷ bs) kind is = dot_step b bs kind (is_ascii_digit b) refl is
 
 -- ---- literals
 
-shape_step : (close : ℕ) (escapes escaped : Bool) (b : ℕ) (bs : List ℕ) (s : Shape) (v w : Bool) → (b == 10) ≡ v → (b == close && not escaped) ≡ w
-    → (shape close escapes (escapes && b == 92 && not escaped) bs ≡ Some s → on_line bs ≡ true) → shape close escapes escaped (b ∷ bs) ≡ Some s → on_line (b ∷ bs) ≡ true
+shape_step : (close : ℕ) (escapes escaped : Bool) (b : ℕ) (bs : List ℕ) (s : Shape) (v w : Bool) → (b == 10) ≡ v
+    → (b == close && not escaped) ≡ w
+    → (shape close escapes (escapes && b == 92 && not escaped) bs ≡ Some s → on_line bs ≡ true)
+    → shape close escapes escaped (b ∷ bs) ≡ Some s → on_line (b ∷ bs) ≡ true
 unfolding shape
 shape_step close escapes escaped b bs s true w e f so is = let nothing : None ≡ Some s = rw e at is in absurd cc
 shape_step close escapes escaped b [] s false true e f so is = rw e refl
@@ -259,8 +231,10 @@ shape_on close escapes escaped (b ∷ bs) s is =
     shape_step close escapes escaped b bs s (b == 10) (b == close && not escaped) refl refl (shape_on close escapes (escapes && b == 92 && not escaped) bs s) is
 
 -- a literal that is a token is closed
-literal_found : (close : ℕ) (escapes : Bool) (of : Shape → List ℕ → Piece) (bs : List ℕ) (kind : TokenKind) (o : Option Shape) → of unclosed bs ≡ Refused OpenText 0 → shape close escapes false bs ≡ o
-    → option_map (λ s. of s bs) o ≡ Some (Token kind) → (of closed bs ≡ Token kind) × (shape close escapes false bs ≡ Some closed) × (on_line bs ≡ true)
+literal_found : (close : ℕ) (escapes : Bool) (of : Shape → List ℕ → Piece) (bs : List ℕ) (kind : TokenKind) (o : Option Shape)
+    → of unclosed bs ≡ Refused OpenText 0 → shape close escapes false bs ≡ o
+    → option_map (λ s. of s bs) o ≡ Some (Token kind)
+    → (of closed bs ≡ Token kind) × (shape close escapes false bs ≡ Some closed) × (on_line bs ≡ true)
 literal_found close escapes of bs kind None unclosed_is e is = absurd cc
 literal_found close escapes of bs kind (Some unclosed) unclosed_is e is = let refused : Some (Refused OpenText 0) ≡ Some (Token kind) = rw unclosed_is at is in absurd cc
 literal_found close escapes of bs kind (Some closed) unclosed_is e is = ((let token : of closed bs ≡ Token kind = cc in token), e, shape_on close escapes false bs closed e)
@@ -278,17 +252,18 @@ constant_kind [] kind is = absurd cc
 constant_kind (c ∷ []) kind is = character_kind c.offset c.value kind is
 constant_kind (c ∷ d ∷ cs) kind is = absurd cc
 
-string_facts : (bs : List ℕ) (kind : TokenKind) → literal 34 true string bs ≡ Some (Token kind) → Facts (34 ∷ bs) kind
+string_facts : (bs : List ℕ) (kind : TokenKind) → literal_piece 34 true string bs ≡ Some (Token kind) → Facts (34 ∷ bs) kind
 string_facts bs kind is =
     let found = literal_found 34 true string bs kind (shape 34 true false bs) refl refl is in
     record { lexed = string_kind (values (characters 1 0 (body_of bs))) kind found.0; line = found.2 }
 
-constant_facts : (bs : List ℕ) (kind : TokenKind) → literal 39 true constant bs ≡ Some (Token kind) → Facts (39 ∷ bs) kind
+constant_facts : (bs : List ℕ) (kind : TokenKind) → literal_piece 39 true constant bs ≡ Some (Token kind) → Facts (39 ∷ bs) kind
 constant_facts bs kind is =
     let found = literal_found 39 true constant bs kind (shape 39 true false bs) refl refl is in
     record { lexed = constant_kind (characters 1 0 (body_of bs)) kind found.0; line = found.2 }
 
-header_step : (b c : ℕ) (cs : List ℕ) (v w : Bool) → (b == 10) ≡ v → (b == 62) ≡ w → (shape 62 false false (c ∷ cs) ≡ Some closed → list_all in_header (take (length (c ∷ cs) - 1) (c ∷ cs)) ≡ true)
+header_step : (b c : ℕ) (cs : List ℕ) (v w : Bool) → (b == 10) ≡ v → (b == 62) ≡ w
+    → (shape 62 false false (c ∷ cs) ≡ Some closed → list_all in_header (take (length (c ∷ cs) - 1) (c ∷ cs)) ≡ true)
     → shape 62 false false (b ∷ c ∷ cs) ≡ Some closed → list_all in_header (take (length (b ∷ c ∷ cs) - 1) (b ∷ c ∷ cs)) ≡ true
 unfolding shape
 header_step b c cs true w e f so is = let nothing : None ≡ Some closed = rw e at is in absurd cc
@@ -303,7 +278,7 @@ header_body [] is = refl
 header_body (b ∷ []) is = refl
 header_body (b ∷ c ∷ cs) is = header_step b c cs (b == 10) (b == 62) refl refl (header_body (c ∷ cs)) is
 
-header_facts : (bs : List ℕ) (kind : TokenKind) → literal 62 false header bs ≡ Some (Token kind) → Facts (60 ∷ bs) kind
+header_facts : (bs : List ℕ) (kind : TokenKind) → literal_piece 62 false header bs ≡ Some (Token kind) → Facts (60 ∷ bs) kind
 header_facts bs kind is =
     let found = literal_found 62 false header bs kind (shape 62 false false bs) refl refl is in
     facts_at (60 ∷ bs) (k.HeaderName (body_of bs)) kind (token_kind (k.HeaderName (body_of bs)) kind found.0) (record { lexed = header_body bs found.1; line = found.2 })
@@ -317,8 +292,9 @@ alone_none : (piece : Piece) (bs : List ℕ) (kind : TokenKind) → (piece ≡ T
 alone_none piece [] kind other is = other (let same : piece ≡ Token kind = cc in same)
 alone_none piece (b ∷ bs) kind other is = cc
 
-quote_facts : (after_include : Bool) (b : ℕ) (bs : List ℕ) (kind : TokenKind) (v w x : Bool) → (b == 34) ≡ v → (b == 39) ≡ w → (b == 60 && after_include) ≡ x
-    → (if b == 34 then literal 34 true string bs else (if b == 39 then literal 39 true constant bs else (if b == 60 && after_include then literal 62 false header bs else punct_piece (b ∷ bs)))) ≡ Some (Token kind) → Facts (b ∷ bs) kind
+quote_facts : (after_include : Bool) (b : ℕ) (bs : List ℕ) (kind : TokenKind) (v w x : Bool) → (b == 34) ≡ v → (b == 39) ≡ w
+    → (b == 60 && after_include) ≡ x
+    → (if b == 34 then literal_piece 34 true string bs else (if b == 39 then literal_piece 39 true constant bs else (if b == 60 && after_include then literal_piece 62 false header bs else punct_piece (b ∷ bs)))) ≡ Some (Token kind) → Facts (b ∷ bs) kind
 quote_facts after_include b bs kind true w x e f g is = facts_from b 34 bs kind e (string_facts bs kind (rw e at is))
 quote_facts after_include b bs kind false true x e f g is = facts_from b 39 bs kind f (constant_facts bs kind (rw (e, f) at is))
 quote_facts after_include b bs kind false false true e f g is =
@@ -326,7 +302,8 @@ quote_facts after_include b bs kind false false true e f g is =
     facts_from b 60 bs kind parts.0 (header_facts bs kind (rw (e, f, g) at is))
 quote_facts after_include b bs kind false false false e f g is = punct_facts (b ∷ bs) kind (rw (e, f, g) at is)
 
-facts_step : (after_include : Bool) (b : ℕ) (bs : List ℕ) (kind : TokenKind) (v w x y z t : Bool) → is_space b ≡ v → is_newline b ≡ w → begins_name b ≡ x → is_ascii_digit b ≡ y → (b == 46) ≡ z → (b == 47) ≡ t
+facts_step : (after_include : Bool) (b : ℕ) (bs : List ℕ) (kind : TokenKind) (v w x y z t : Bool) → is_space b ≡ v → is_newline b ≡ w
+    → begins_name b ≡ x → is_ascii_digit b ≡ y → (b == 46) ≡ z → (b == 47) ≡ t
     → spelled after_include (b ∷ bs) ≡ Some (Token kind) → Facts (b ∷ bs) kind
 unfolding spelled
 facts_step after_include b bs kind true w x y z t c d e f g h is = absurd (alone_none Space bs kind (λ same. cc) (rw c at is))
@@ -338,7 +315,8 @@ facts_step after_include b bs kind false false false false false true c d e f g 
 facts_step after_include b bs kind false false false false false false c d e f g h is =
     quote_facts after_include b bs kind (b == 34) (b == 39) (b == 60 && after_include) refl refl refl (rw (c, d, e, f, g, h) at is)
 
-pub token_facts : (after_include : Bool) (text : List ℕ) (kind : TokenKind) → spelled after_include text ≡ Some (Token kind) → Facts text kind
+pub token_facts : (after_include : Bool) (text : List ℕ) (kind : TokenKind) → spelled after_include text ≡ Some (Token kind)
+    → Facts text kind
 unfolding spelled
 token_facts after_include [] kind is = absurd cc
 token_facts after_include (b ∷ bs) kind is = facts_step after_include b bs kind (is_space b) (is_newline b) (begins_name b) (is_ascii_digit b) (b == 46) (b == 47) refl refl refl refl refl refl is

@@ -1,7 +1,8 @@
 -- Character constants, string literals and header names (C11 6.4.4.4, 6.4.5 and 6.4.7).
-use Rattle.std.specs.Prelude.{ℕ, zero, suc, ◌-◌, Bool, false, not, ◌==◌, ◌&&◌, ◌||◌, nat_lt, if◌then◌else◌, List, [], ◌∷◌, length, take, Option, Some, None, option_map, Result, Ok, Err}
+use Rattle.std.specs.Prelude.{◌≡◌, ℕ, zero, suc, ◌+◌, ◌-◌, Bool, false, not, ◌==◌, ◌&&◌, ◌||◌, nat_lt, if◌then◌else◌, List, [], ◌∷◌, ◌++◌, length, take, Option, Some, None, option_map, Result, Ok, Err}
 use Rattle.std.specs.List.{take_while}
 use Rattle.std.specs.Char.{is_digit}
+use Rattle.std.specs.Str.{byte}
 use Rattle.std.specs.Str.Parse.{digits_value}
 use Rattle.fc_base.specs.declared.rules.Rule.TheVariants.{OpenText, BadEscape, LeftOutLiteral}
 use Rattle.c_tokens.specs.declared.tokens.TokenKind.TheVariants.{CharConst, Str, HeaderName}
@@ -21,23 +22,35 @@ pub data Shape : Type 0 where
 unfoldable pub shape : ℕ → Bool → Bool → List ℕ → Option Shape
 shape close escapes escaped [] = Some unclosed
 shape close escapes escaped (b ∷ bs) =
-    if b == 10 then None
+    if b == byte "\n" then None
     else (if b == close && not escaped then (if is_empty bs then Some closed else None)
-    else shape close escapes (escapes && b == 92 && not escaped) bs)
+    else shape close escapes (escapes && b == byte "\\" && not escaped) bs)
+
+-- What stands behind the quote of a string literal or character constant, as C11 6.4.4.4 and 6.4.5 have it: a byte other
+-- than the quote, the backslash and the newline, or a backslash and a byte that is no newline, and so on up to the quote;
+-- without a quote it is unclosed.
+pub data HasShape (quote : ℕ) : Shape → List ℕ → Type 0 where
+  ends : HasShape quote closed (quote ∷ [])
+  runs_out : HasShape quote unclosed []
+  backslash_last : HasShape quote unclosed (byte "\\" ∷ [])
+  plain_byte : {s : Shape} {b : ℕ} {bs : List ℕ} → (b == byte "\n") ≡ false → (b == quote) ≡ false → (b == byte "\\") ≡ false
+      → HasShape quote s bs → HasShape quote s (b ∷ bs)
+  escaped_byte : {s : Shape} {b : ℕ} {bs : List ℕ} → (b == byte "\n") ≡ false → HasShape quote s bs
+      → HasShape quote s (byte "\\" ∷ b ∷ bs)
 
 -- ---- escape sequences
 
 -- `\'`, `\"`, `\?`, `\\`, `\a`, `\b`, `\f`, `\n`, `\r`, `\t` and `\v`
 unfoldable pub simple_escape : ℕ → Option ℕ
 simple_escape b =
-    if b == 39 || b == 34 || b == 63 || b == 92 then Some b
-    else (if b == 97 then Some 7
-    else (if b == 98 then Some 8
-    else (if b == 102 then Some 12
-    else (if b == 110 then Some 10
-    else (if b == 114 then Some 13
-    else (if b == 116 then Some 9
-    else (if b == 118 then Some 11
+    if b == byte "'" || b == byte "\"" || b == byte "?" || b == byte "\\" then Some b
+    else (if b == byte "a" then Some 7
+    else (if b == byte "b" then Some 8
+    else (if b == byte "f" then Some 12
+    else (if b == byte "n" then Some 10
+    else (if b == byte "r" then Some 13
+    else (if b == byte "t" then Some 9
+    else (if b == byte "v" then Some 11
     else None)))))))
 
 -- the number that the digits write, where there is a digit and the number is a byte
@@ -58,7 +71,7 @@ unfoldable pub escape : List ℕ → ℕ × Option ℕ
 escape [] = (0, None)
 escape (b ∷ bs) =
     if is_digit b 8 then (length (octal_digits (b ∷ bs)), byte_value 8 (octal_digits (b ∷ bs)))
-    else (if b == 120 then (suc (length (hexadecimal_digits bs)), byte_value 16 (hexadecimal_digits bs))
+    else (if b == byte "x" then (suc (length (hexadecimal_digits bs)), byte_value 16 (hexadecimal_digits bs))
     else (1, simple_escape b))
 
 -- ---- the characters between the quotes
@@ -76,8 +89,21 @@ unfoldable pub characters : ℕ → ℕ → List ℕ → List Character
 characters offset left [] = []
 characters offset (suc left) (b ∷ bs) = characters (suc offset) left bs
 characters offset zero (b ∷ bs) =
-    if b == 92 then character offset (escape bs).1 ∷ characters (suc offset) (escape bs).0 bs
+    if b == byte "\\" then character offset (escape bs).1 ∷ characters (suc offset) (escape bs).0 bs
     else character offset (Some b) ∷ characters (suc offset) 0 bs
+
+-- One character by itself, with what stands behind it: a byte that is no backslash, or a backslash and as many bytes as
+-- the escape sequence there has.
+pub data IsCharacter (behind : List ℕ) : List ℕ → Option ℕ → Type 0 where
+  plain : (b : ℕ) → (b == byte "\\") ≡ false → IsCharacter behind (b ∷ []) (Some b)
+  escaped : (sequence : List ℕ) → length sequence ≡ (escape (sequence ++ behind)).0
+      → IsCharacter behind (byte "\\" ∷ sequence) (escape (sequence ++ behind)).1
+
+-- A body is its characters joined, and each stands where those before it end.
+pub data AreCharacters : ℕ → List ℕ → List Character → Type 0 where
+  none : {offset : ℕ} → AreCharacters offset [] []
+  more : {offset : ℕ} {text behind : List ℕ} {value : Option ℕ} {cs : List Character} → IsCharacter behind text value
+      → AreCharacters (offset + length text) behind cs → AreCharacters offset (text ++ behind) (character offset value ∷ cs)
 
 abbrev pub valued : ℕ → Option ℕ → Result (List ℕ) ℕ → Result (List ℕ) ℕ
 valued offset None rest = Err offset
@@ -122,5 +148,5 @@ header unclosed bs = Refused OpenText 0
 header closed bs = Token (HeaderName (body_of bs))
 
 -- what these bytes are behind the opening byte of a literal
-abbrev pub literal : ℕ → Bool → (Shape → List ℕ → Piece) → List ℕ → Option Piece
-literal close escapes of bs = option_map (λ s. of s bs) (shape close escapes false bs)
+abbrev pub literal_piece : ℕ → Bool → (Shape → List ℕ → Piece) → List ℕ → Option Piece
+literal_piece close escapes of bs = option_map (λ s. of s bs) (shape close escapes false bs)

@@ -2,6 +2,7 @@
 use Rattle.std.specs.Prelude.{ℕ, ◌^◌, Bool, true, false, ◌==◌, ◌&&◌, ◌||◌, nat_lt, if◌then◌else◌, List, [], ◌∷◌, drop, Option, Some, None}
 use Rattle.std.specs.List.{prefix_len, take_while}
 use Rattle.std.specs.Char.{is_digit}
+use Rattle.std.specs.Str.{byte}
 use Rattle.std.specs.Str.Parse.{digits_value}
 use Rattle.fc_base.specs.declared.rules.Rule.TheVariants.{BigNumber, LeftOutLiteral}
 use Rattle.c_tokens.specs.declared.tokens.NumberKind.{NumberKind}
@@ -12,7 +13,7 @@ use Rattle.c_tokens.specs.Bytes.{goes_on, is_sign, is_exponent, is_empty}
 
 -- the byte goes on in a preprocessing number behind this one: a letter, a digit, `_`, `.`, or a sign behind an exponent's letter
 abbrev pub in_number : ℕ → ℕ → Bool
-in_number before b = goes_on b || b == 46 || (is_sign b && is_exponent before)
+in_number before b = goes_on b || b == byte "." || (is_sign b && is_exponent before)
 
 -- each of the bytes goes on in a preprocessing number, the first behind this one
 abbrev pub all_in_number : ℕ → List ℕ → Bool
@@ -21,10 +22,10 @@ all_in_number before (b ∷ bs) = in_number before b && all_in_number b bs
 
 -- u or U; l or L; ll or LL
 abbrev pub is_u : ℕ → Bool
-is_u b = b == 117 || b == 85
+is_u b = b == byte "u" || b == byte "U"
 
 abbrev pub is_l : ℕ → Bool
-is_l b = b == 108 || b == 76
+is_l b = b == byte "l" || b == byte "L"
 
 abbrev pub is_ll : ℕ → ℕ → Bool
 is_ll a b = is_l a && a == b
@@ -64,11 +65,11 @@ integer_in base body =
 abbrev pub is_hexadecimal : List ℕ → Bool
 is_hexadecimal [] = false
 is_hexadecimal (a ∷ []) = false
-is_hexadecimal (a ∷ b ∷ bs) = a == 48 && (b == 120 || b == 88)
+is_hexadecimal (a ∷ b ∷ bs) = a == byte "0" && (b == byte "x" || b == byte "X")
 
 abbrev pub begins_zero : List ℕ → Bool
 begins_zero [] = false
-begins_zero (a ∷ bs) = a == 48
+begins_zero (a ∷ bs) = a == byte "0"
 
 -- A preprocessing number, as a whole. `0` is an octal literal, as in C11.
 unfoldable pub number : List ℕ → Piece

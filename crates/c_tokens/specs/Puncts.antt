@@ -1,9 +1,11 @@
--- The punctuators of C11 6.4.6 without its digraphs, and the known headers.
-use Rattle.std.specs.Prelude.{ℕ, ◌==◌, ◌&&◌, if◌then◌else◌, List, [], ◌∷◌, ◌++◌, codes, Option, Some, None}
+-- The punctuators of C11 6.4.6 without its digraphs, and the line that includes a header.
+use Rattle.std.specs.Prelude.{ℕ, Bool, List, [], ◌∷◌, ◌++◌, codes, Option}
+use Rattle.std.specs.List.{find}
+use Rattle.std.specs.Str.{bytes_eq}
 use Rattle.c_tokens.specs.declared.puncts.Punct.{Punct}
 use Rattle.c_tokens.specs.declared.puncts.Punct.TheVariants as p
-use Rattle.c_tokens.specs.declared.puncts.HeaderId.{HeaderId}
-use Rattle.c_tokens.specs.declared.puncts.HeaderId.TheVariants as h
+use Rattle.c_headers.specs.declared.headers.HeaderId.{HeaderId}
+use Rattle.c_headers.specs.Headers.{header_name}
 
 -- how each punctuator is spelled
 abbrev pub punct_spelling : Punct → List ℕ
@@ -56,104 +58,26 @@ punct_spelling p.Comma = codes ","
 punct_spelling p.Hash = codes "#"
 punct_spelling p.HashHash = codes "##"
 
--- what one byte spells: an operator
-unfoldable pub operator : ℕ → Option Punct
-operator a =
-    if a == 43 then Some p.Plus
-    else (if a == 45 then Some p.Minus
-    else (if a == 42 then Some p.Star
-    else (if a == 47 then Some p.Slash
-    else (if a == 37 then Some p.Percent
-    else (if a == 38 then Some p.Ampersand
-    else (if a == 124 then Some p.Bar
-    else (if a == 94 then Some p.Caret
-    else (if a == 126 then Some p.Tilde
-    else (if a == 33 then Some p.Exclamation
-    else (if a == 60 then Some p.Less
-    else (if a == 62 then Some p.Greater
-    else (if a == 61 then Some p.Assign
-    else None))))))))))))
+-- punctuators are the same where they are spelled alike
+abbrev pub same_punct : Punct → Punct → Bool
+same_punct a b = bytes_eq (punct_spelling a) (punct_spelling b)
 
--- what one byte spells: a bracket, a separator or an operator
-unfoldable pub one_byte : ℕ → Option Punct
-one_byte a =
-    if a == 91 then Some p.LeftBracket
-    else (if a == 93 then Some p.RightBracket
-    else (if a == 40 then Some p.LeftParen
-    else (if a == 41 then Some p.RightParen
-    else (if a == 123 then Some p.LeftBrace
-    else (if a == 125 then Some p.RightBrace
-    else (if a == 46 then Some p.Dot
-    else (if a == 44 then Some p.Comma
-    else (if a == 59 then Some p.Semicolon
-    else (if a == 58 then Some p.Colon
-    else (if a == 63 then Some p.Question
-    else (if a == 35 then Some p.Hash
-    else operator a)))))))))))
+-- all of them, as C11 6.4.6 lists them
+unfoldable pub puncts : List Punct
+puncts =
+    p.LeftBracket ∷ p.RightBracket ∷ p.LeftParen ∷ p.RightParen ∷ p.LeftBrace ∷ p.RightBrace ∷ p.Dot ∷ p.Arrow
+    ∷ p.PlusPlus ∷ p.MinusMinus ∷ p.Ampersand ∷ p.Star ∷ p.Plus ∷ p.Minus ∷ p.Tilde ∷ p.Exclamation
+    ∷ p.Slash ∷ p.Percent ∷ p.ShiftLeft ∷ p.ShiftRight ∷ p.Less ∷ p.Greater ∷ p.LessEqual ∷ p.GreaterEqual ∷ p.EqualEqual
+    ∷ p.NotEqual ∷ p.Caret ∷ p.Bar ∷ p.AndAnd ∷ p.OrOr
+    ∷ p.Question ∷ p.Colon ∷ p.Semicolon ∷ p.Ellipsis
+    ∷ p.Assign ∷ p.StarAssign ∷ p.SlashAssign ∷ p.PercentAssign ∷ p.PlusAssign ∷ p.MinusAssign ∷ p.ShiftLeftAssign
+    ∷ p.ShiftRightAssign ∷ p.AmpersandAssign ∷ p.CaretAssign ∷ p.BarAssign
+    ∷ p.Comma ∷ p.Hash ∷ p.HashHash ∷ []
 
--- what a byte and `=` spell
-unfoldable pub with_assign : ℕ → Option Punct
-with_assign a =
-    if a == 43 then Some p.PlusAssign
-    else (if a == 45 then Some p.MinusAssign
-    else (if a == 42 then Some p.StarAssign
-    else (if a == 47 then Some p.SlashAssign
-    else (if a == 37 then Some p.PercentAssign
-    else (if a == 38 then Some p.AmpersandAssign
-    else (if a == 124 then Some p.BarAssign
-    else (if a == 94 then Some p.CaretAssign
-    else (if a == 33 then Some p.NotEqual
-    else (if a == 60 then Some p.LessEqual
-    else (if a == 62 then Some p.GreaterEqual
-    else (if a == 61 then Some p.EqualEqual
-    else None)))))))))))
+-- the punctuator whose spelling the text is
+unfoldable pub punctuator : List ℕ → Option Punct
+punctuator text = find (λ punct. bytes_eq text (punct_spelling punct)) puncts
 
--- what a byte spells that stands there twice
-unfoldable pub doubled : ℕ → Option Punct
-doubled a =
-    if a == 43 then Some p.PlusPlus
-    else (if a == 45 then Some p.MinusMinus
-    else (if a == 38 then Some p.AndAnd
-    else (if a == 124 then Some p.OrOr
-    else (if a == 60 then Some p.ShiftLeft
-    else (if a == 62 then Some p.ShiftRight
-    else (if a == 35 then Some p.HashHash
-    else None))))))
-
--- what two bytes spell
-abbrev pub two_bytes : ℕ → ℕ → Option Punct
-two_bytes a b =
-    if b == 61 then with_assign a
-    else (if a == b then doubled a
-    else (if a == 45 && b == 62 then Some p.Arrow
-    else None))
-
--- what three bytes spell: `...`, `<<=` and `>>=`
-abbrev pub three_bytes : ℕ → ℕ → ℕ → Option Punct
-three_bytes a b c =
-    if a == 46 && b == 46 && c == 46 then Some p.Ellipsis
-    else (if a == 60 && b == 60 && c == 61 then Some p.ShiftLeftAssign
-    else (if a == 62 && b == 62 && c == 61 then Some p.ShiftRightAssign
-    else None))
-
--- the punctuator that these bytes spell as a whole
-abbrev pub punctuator : List ℕ → Option Punct
-punctuator [] = None
-punctuator (a ∷ []) = one_byte a
-punctuator (a ∷ b ∷ []) = two_bytes a b
-punctuator (a ∷ b ∷ c ∷ []) = three_bytes a b c
-punctuator (a ∷ b ∷ c ∷ d ∷ ds) = None
-
--- the name of each known header
-abbrev pub header_name : HeaderId → List ℕ
-header_name h.String = codes "string.h"
-header_name h.Strings = codes "strings.h"
-header_name h.Stdio = codes "stdio.h"
-header_name h.Stdlib = codes "stdlib.h"
-header_name h.Stddef = codes "stddef.h"
-header_name h.Stdint = codes "stdint.h"
-header_name h.Unistd = codes "unistd.h"
-
--- the line that includes it (C11 6.10.2)
+-- the line that includes a header (C11 6.10.2)
 abbrev pub include_line : HeaderId → List ℕ
 include_line header = codes "#include <" ++ header_name header ++ codes ">"

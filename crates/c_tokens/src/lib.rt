@@ -7,8 +7,12 @@ mod puncts;
 mod spellings;
 mod tokens;
 
-pub use laws::{kinds_of_tokens, spellings_of_punctuators};
+pub use c_headers::HeaderId;
+pub use laws::{
+    characters_of_bodies, ends_of_comments, ends_of_literals, kinds_of_tokens,
+    spellings_of_punctuators,
+};
 pub use pieces::Piece;
-pub use puncts::{HeaderId, Punct};
+pub use puncts::Punct;
 pub use spellings::spelling;
 pub use tokens::{NumberKind, TOKEN_LIMIT, Token, TokenKind};

@@ -1,7 +1,7 @@
-//! The punctuators of C11 6.4.6 without its digraphs, and the headers that are known.
+//! The punctuators of C11 6.4.6 without its digraphs.
 
 ghost use Rattle.std.specs.Prelude.{◌≡◌};
-ghost use Rattle.c_tokens.specs.Puncts.{punct_spelling, header_name};
+ghost use Rattle.c_tokens.specs.Puncts.{punct_spelling, same_punct};
 
 /// A punctuator.
 #[derive(Clone, Copy, Debug, PartialEq, Eq)]
@@ -104,25 +104,6 @@ pub enum Punct {
     HashHash,
 }
 
-/// A header that can be included. Its declarations and macros are built in.
-#[derive(Clone, Copy, Debug, PartialEq, Eq)]
-pub enum HeaderId {
-    /// `string.h`
-    String,
-    /// `strings.h`
-    Strings,
-    /// `stdio.h`
-    Stdio,
-    /// `stdlib.h`
-    Stdlib,
-    /// `stddef.h`
-    Stddef,
-    /// `stdint.h`
-    Stdint,
-    /// `unistd.h`
-    Unistd,
-}
-
 impl Punct {
     /// Its spelling.
     pub fn spelling(self) -> &'static str
@@ -179,21 +160,11 @@ impl Punct {
             Punct::HashHash => "##",
         }
     }
-}
 
-impl HeaderId {
-    /// Its name, as it stands between the angle brackets.
-    pub fn name(self) -> &'static str
-        ensures { result.now ≡ header_name self }
+    /// Whether the two are spelled alike, and so are one.
+    pub fn is_spelled_as(self, other: Punct) -> bool
+        ensures { result ≡ same_punct self other }
     {
-        match self {
-            HeaderId::String => "string.h",
-            HeaderId::Strings => "strings.h",
-            HeaderId::Stdio => "stdio.h",
-            HeaderId::Stdlib => "stdlib.h",
-            HeaderId::Stddef => "stddef.h",
-            HeaderId::Stdint => "stdint.h",
-            HeaderId::Unistd => "unistd.h",
-        }
+        self == other
     }
 }

@@ -6,8 +6,8 @@ ghost use Rattle.c_tokens.specs.Pieces.{IsLexedKind, Spells};
 ghost use Rattle.c_tokens.specs.Puncts.{include_line};
 ghost use Rattle.c_tokens.specs.Spelling.{octal_digit, digits_text, suffix_text, number_text, escaped, quoted, spelling_of};
 
-use crate::puncts::HeaderId;
 use crate::tokens::{NumberKind, Token, TokenKind};
+use c_headers::HeaderId;
 use fc_base::{NoMemory, Text};
 use itoa::Buffer;
 use std::alloc::{AllocError, Global};

@@ -3,7 +3,8 @@
 ghost use Rattle.std.specs.Prelude.{◌≡◌, IfOk};
 ghost use Rattle.c_tokens.specs.Tokens.{is_hash};
 
-use crate::puncts::{HeaderId, Punct};
+use crate::puncts::Punct;
+use c_headers::HeaderId;
 use fc_base::{NoMemory, Place, Text};
 use std::alloc::Global;
 
@@ -12,7 +13,7 @@ pub const TOKEN_LIMIT: u64 = 1_000_000;
 
 /// What the spelling of an integer literal says beside its value (C11 6.4.4.1): whether it is decimal, whether it
 /// has the suffix u, and the number of its letters l, from 0 to 2.
-#[derive(Clone, Copy, Debug, PartialEq, Eq)]
+#[derive(Clone, Copy, PartialEq, Eq)]
 pub struct NumberKind {
     pub decimal: bool,
     pub unsigned: bool,
@@ -21,7 +22,7 @@ pub struct NumberKind {
 
 /// What a token is. `CharConst` has the byte of a character constant, `Str` the bytes of a string literal without
 /// its NUL, `HeaderName` the bytes between `<` and `>`, and `Header` is an inclusion that has been carried out.
-#[derive(Debug, Drop)]
+#[derive(Drop)]
 pub enum TokenKind {
     Name(Text),
     Number { value: u64, kind: NumberKind },
@@ -40,7 +41,7 @@ impl TokenKind {
         matches!(self, TokenKind::Punct(Punct::Hash))
     }
 
-    /// The same, in memory of its own.
+    /// A copy of the kind, in memory of its own.
     pub fn copied(&self, alloc: Global) -> Result<TokenKind, NoMemory>
         ensures { IfOk result (λ copy. copy ≡ self.now) }
     {
@@ -64,7 +65,7 @@ impl TokenKind {
 
 /// A token. It starts its line where no other token stands before it there, and is spaced where white space or a
 /// comment stands right before it.
-#[derive(Debug, Drop)]
+#[derive(Drop)]
 pub struct Token {
     pub kind: TokenKind,
     pub place: Place,
@@ -73,7 +74,7 @@ pub struct Token {
 }
 
 impl Token {
-    /// The same, in memory of its own.
+    /// A copy of the token, in memory of its own.
     pub fn copied(&self, alloc: Global) -> Result<Token, NoMemory>
         ensures { IfOk result (λ copy. copy ≡ self.now) }
     {

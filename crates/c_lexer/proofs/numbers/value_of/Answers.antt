@@ -5,7 +5,8 @@ use Rattle.c_lexer.proofs.numbers.value_of.Goals as goal
 pub returns-in_err-value : goal.returns-in_err-value
 returns-in_err-value c =
     let step = rw c.digit_value.ensures.value at c.with_digit.ensures in
-    c.from_residual.ensures ∙ sym (too_large c.args.base c.loop-b.value c.args.digits.now c.loop-b.b-index c.requires c.loop-b-test.true c.loop-b.invariant.same (sym (c.in_err-value.was {u = tt}) ∙ step))
+    c.from_residual.ensures
+    ∙ sym (too_large c.args.base c.loop-b.value c.args.digits.now c.loop-b.b-index c.requires c.loop-b-test.true c.loop-b.invariant.same (sym (c.in_err-value.was {u = tt}) ∙ step))
 
 pub loop-b-preserved : goal.loop-b-preserved
 loop-b-preserved c =
