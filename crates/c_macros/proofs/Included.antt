@@ -1,7 +1,7 @@
 -- A search along the headers that were included.
 use Rattle.std.proofs.Common.{◌≡◌, ℕ, ◌+◌, ◌<◌, Bool, true, false, List, ◌∷◌, length, get_or, drop, refl, ap, ◌∙◌, add-one, drop-cons}
 use Rattle.std.specs.List.{list_any}
-use Rattle.c_tokens.specs.declared.HeaderId.{HeaderId}
+use Rattle.c_headers.specs.declared.headers.HeaderId.{HeaderId}
 
 module _ (p : HeaderId → Bool) (list : List HeaderId) (i : ℕ) (d : HeaderId) (lt : i < length list) where
   header_dropped : drop i list ≡ get_or list i d ∷ drop (i + 1) list

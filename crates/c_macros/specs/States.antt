@@ -7,8 +7,8 @@ use Rattle.macro_meaning.specs.Moves.{State, Next, refuses, goes, Move, over, mo
 use Rattle.macro_items.specs.Views.{table}
 use Rattle.macro_definitions.specs.declared.State.{State as Held}
 
-abbrev pub state : Held → State
-state st = record { macros = table st.macros; groups = reverse st.groups.items; headers = st.headers.items }
+abbrev pub state_view : Held → State
+state_view st = record { macros = table st.macros; groups = reverse st.groups.items; headers = st.headers.items }
 
 -- where a function went to, by the state afterwards
 abbrev pub GoesAs : {X : Type 0} → Result X Fault → (X → List Token) → State → Next → Type 0

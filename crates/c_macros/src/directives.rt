@@ -1,14 +1,14 @@
 //! What directives do (C11 6.10.1 to 6.10.3). Each gives the token of an inclusion, or none.
 
 ghost use Rattle.std.specs.Prelude.{◌≡◌, IfOk, option_map, option_to_list, reverse, if◌then◌else◌, Some, None, true, false, ◌∷◌};
-ghost use Rattle.macro_meaning.specs.Macros.{Macros};
-ghost use Rattle.macro_meaning.specs.Definitions.{definition, meaning, header_macros};
+ghost use Rattle.macro_meaning.specs.Definitions.{definition, header_macros};
 ghost use Rattle.macro_meaning.specs.Moves as moves;
-ghost use Rattle.macro_meaning.specs.Moves.{with_definition, with_definitions, only_name, only_header, header_token, group};
+ghost use Rattle.macro_meaning.specs.Moves.{with_definition, with_definitions, only_name, only_header, header_token, waits, by_condition, group};
+ghost use Rattle.macro_meaning.specs.declared.GroupState.TheVariants.{Taken, Waits, Over};
 ghost use Rattle.macro_meaning.specs.Sameness as sameness;
 ghost use Rattle.std.specs.List.{list_any};
 ghost use Rattle.macro_items.specs.Views.{table, meaning_view};
-ghost use Rattle.c_macros.specs.States.{state, GoesAs};
+ghost use Rattle.c_macros.specs.States.{state_view, GoesAs};
 ghost use Rattle.macro_lines.specs.Lines.{entry_views};
 ghost use Rattle.c_macros.specs.Doing.{DoesAs};
 
@@ -19,10 +19,8 @@ use macro_definitions::{
     unset_macro,
 };
 use macro_items::{Macro, Macros, find};
-use macro_lines::{
-    Builtins, Entry, after, header_macros, header_named, holds, name_of, refuse, word_of,
-};
-use macro_meaning::{Group, Word};
+use macro_lines::{Builtins, Entry, after, directive_word, header_macros, holds, name_of};
+use macro_meaning::{Group, GroupState, Word};
 use std::alloc::{AllocError, Global};
 
 /// Adds a macro, and tells whether its name had no other meaning.
@@ -66,23 +64,18 @@ fn add_header<'a>(
     add_macros(macros, &mut entries)
 }
 
-fn define<'a>(
-    alloc: Global,
-    st: &mut State<'a>,
-    place: Place,
-    line: &'a [Token],
-) -> Result<Option<Token>, Fault>
-    ensures { GoesAs result option_to_list (state st.new) (moves.defines (state st.old) place (definition line.now)) }
+fn define<'a>(st: &mut State<'a>, place: Place, line: &'a [Token]) -> Result<Option<Token>, Fault>
+    ensures { GoesAs result option_to_list (state_view st.new) (moves.on_define (state_view st.old) place (definition line.now)) }
 {
-    let Some(read) = definition_of(alloc, line)? else {
-        return refuse(Rule::BadDefine, place);
+    let Some(read) = definition_of(st.alloc, line)? else {
+        return Err(Fault::refused(Rule::BadDefine, place));
     };
-    let meaning = meaning(alloc, read.parameters, read.body)?;
+    let meaning = meaning(st.alloc, read.parameters, read.body)?;
     if !add_macro(&mut st.macros, read.name, meaning)? {
-        return refuse(Rule::Redefined, place);
+        return Err(Fault::refused(Rule::Redefined, place));
     }
     match operator(read.body) {
-        Some(token) => refuse(Rule::LeftOutOperator, token.place),
+        Some(token) => Err(Fault::refused(Rule::LeftOutOperator, token.place)),
         None => Ok(None),
     }
 }
@@ -99,10 +92,10 @@ fn only_name(line: &[Token]) -> Option<&[u8]>
 }
 
 fn undefine(st: &mut State<'_>, place: Place, line: &[Token]) -> Result<Option<Token>, Fault>
-    ensures { GoesAs result option_to_list (state st.new) (moves.undefines (state st.old) place (only_name line.now)) }
+    ensures { GoesAs result option_to_list (state_view st.new) (moves.on_undef (state_view st.old) place (only_name line.now)) }
 {
     match only_name(line) {
-        None => refuse(Rule::BadDefine, place),
+        None => Err(Fault::refused(Rule::BadDefine, place)),
         Some(name) => {
             unset_macro(&mut st.macros, name);
             Ok(None)
@@ -117,7 +110,7 @@ fn only_header(line: &[Token]) -> Option<HeaderId>
         return None;
     }
     match &line[0].kind {
-        TokenKind::HeaderName(name) => header_named(name.bytes()),
+        TokenKind::HeaderName(name) => HeaderId::named(name.bytes()),
         _ => None,
     }
 }
@@ -144,92 +137,103 @@ fn header_token(hash: &Token, header: HeaderId) -> Token
     }
 }
 
-fn include<'a>(
-    alloc: Global,
-    tokens: &'a Builtins,
-    st: &mut State<'a>,
-    hash: &Token,
-    line: &[Token],
-) -> Result<Option<Token>, Fault>
-    ensures { GoesAs result option_to_list (state st.new) (moves.includes (state st.old) hash.now (only_header line.now)) }
+fn include<'a>(st: &mut State<'a>, hash: &Token, line: &[Token]) -> Result<Option<Token>, Fault>
+    ensures { GoesAs result option_to_list (state_view st.new) (moves.on_include (state_view st.old) hash.now (only_header line.now)) }
 {
     let Some(header) = only_header(line) else {
-        return refuse(Rule::UnknownHeader, hash.place);
+        return Err(Fault::refused(Rule::UnknownHeader, hash.place));
     };
     if is_included(&st.headers, header) {
         return Ok(None);
     }
-    if !add_header(alloc, tokens, &mut st.macros, header)? {
-        return refuse(Rule::Redefined, hash.place);
+    if !add_header(st.alloc, st.tokens, &mut st.macros, header)? {
+        return Err(Fault::refused(Rule::Redefined, hash.place));
     }
     st.headers.push(header)?;
     Ok(Some(header_token(hash, header)))
 }
 
-fn open(st: &mut State<'_>, place: Place, holds: bool) -> Result<Option<Token>, Fault>
-    ensures { GoesAs result option_to_list (state st.new) (moves.opened (state st.old) place holds) }
+fn by_condition(holds: bool) -> GroupState
+    ensures { result ≡ by_condition holds }
+{
+    if holds {
+        GroupState::Taken
+    } else {
+        GroupState::Waits
+    }
+}
+
+fn waits(group: GroupState) -> bool
+    ensures { result ≡ waits group }
+{
+    matches!(group, GroupState::Waits)
+}
+
+/// Opens a conditional.
+fn open(st: &mut State<'_>, place: Place, group: GroupState) -> Result<Option<Token>, Fault>
+    ensures { GoesAs result option_to_list (state_view st.new) (moves.opened (state_view st.old) place group) }
 {
     st.groups.push(Group {
         place,
-        is_taken: holds,
-        was_taken: holds,
+        state: group,
         had_else: false,
     })?;
     Ok(None)
 }
 
-fn skip(st: &mut State<'_>, place: Place) -> Result<Option<Token>, Fault>
-    ensures { GoesAs result option_to_list (state st.new) (moves.skipped (state st.old) place) }
+fn ifdef(st: &mut State<'_>, place: Place, line: &[Token]) -> Result<Option<Token>, Fault>
+    ensures { GoesAs result option_to_list (state_view st.new) (moves.on_ifdef (state_view st.old) place (only_name line.now)) }
 {
-    st.groups.push(Group {
-        place,
-        is_taken: false,
-        was_taken: true,
-        had_else: false,
-    })?;
-    Ok(None)
+    let Some(name) = only_name(line) else {
+        return Err(Fault::refused(Rule::BadDefine, place));
+    };
+    let is_macro = find(&st.macros, name).is_some();
+    open(st, place, by_condition(is_macro))
 }
 
-fn if_defined(
-    st: &mut State<'_>,
-    place: Place,
-    wanted: bool,
-    line: &[Token],
-) -> Result<Option<Token>, Fault>
-    ensures { GoesAs result option_to_list (state st.new) (moves.if_defined (state st.old) place wanted (only_name line.now)) }
+fn ifndef(st: &mut State<'_>, place: Place, line: &[Token]) -> Result<Option<Token>, Fault>
+    ensures { GoesAs result option_to_list (state_view st.new) (moves.on_ifndef (state_view st.old) place (only_name line.now)) }
 {
-    match only_name(line) {
-        None => refuse(Rule::BadDefine, place),
-        Some(name) => {
-            let is_defined = find(&st.macros, name).is_some();
-            open(st, place, if wanted { is_defined } else { !is_defined })
-        }
+    let Some(name) = only_name(line) else {
+        return Err(Fault::refused(Rule::BadDefine, place));
+    };
+    let is_macro = find(&st.macros, name).is_some();
+    open(st, place, by_condition(!is_macro))
+}
+
+/// The group of an `else`: it is taken where none was.
+fn last_group(group: GroupState) -> GroupState
+    ensures { result ≡ (if waits group then Taken else Over) }
+{
+    if waits(group) {
+        GroupState::Taken
+    } else {
+        GroupState::Over
     }
 }
 
 fn otherwise(st: &mut State<'_>, place: Place) -> Result<Option<Token>, Fault>
-    ensures { GoesAs result option_to_list (state st.new) (moves.otherwise (state st.old) place (state st.old).groups) }
+    ensures { GoesAs result option_to_list (state_view st.new) (moves.on_else (state_view st.old) place (state_view st.old).groups) }
 {
     match st.groups.pop() {
         Some(group) if !group.had_else => {
             st.groups.push(Group {
                 place: group.place,
-                is_taken: !group.was_taken,
-                was_taken: true,
+                state: last_group(group.state),
                 had_else: true,
             })?;
             Ok(None)
         }
-        _ => refuse(Rule::OpenConditional, place),
+        _ => Err(Fault::refused(Rule::OpenConditional, place)),
     }
 }
 
 fn end(st: &mut State<'_>, place: Place) -> Result<Option<Token>, Fault>
-    ensures { GoesAs result option_to_list (state st.new) (moves.ended (state st.old) place (state st.old).groups) }
+    ensures { GoesAs result option_to_list (state_view st.new) (moves.on_endif (state_view st.old) place (state_view st.old).groups) }
 {
     match st.groups.pop() {
         Some(_) => Ok(None),
-        None => refuse(Rule::OpenConditional, place),
+        None => Err(Fault::refused(Rule::OpenConditional, place)),
     }
 }
 
@@ -239,8 +243,8 @@ fn give(
     given: Result<Option<Token>, Fault>,
     count: u64,
 ) -> Result<u64, Fault>
-    ensures { (ms : Macros) (st : moves.State) (n : moves.Next) → GoesAs given option_to_list st n
-        → DoesAs result ms count (moves.moves n) st done.old.items done.new.items }
+    ensures { (from st : moves.State) (n : moves.Next) → GoesAs given option_to_list st n
+        → DoesAs result from count (moves.moves n) st done.old.items done.new.items }
 {
     if let Some(token) = given? {
         done.push(token)?;
@@ -249,72 +253,59 @@ fn give(
 }
 
 /// Opens another group of a conditional.
-fn reopen(
-    st: &mut State<'_>,
-    group: Group,
-    is_taken: bool,
-    was_taken: bool,
-) -> Result<Option<Token>, Fault>
-    ensures { GoesAs result option_to_list (state st.new) (moves.with_groups (state st.old)
-        (record group { is_taken = is_taken; was_taken = was_taken } ∷ (state st.old).groups)) }
+fn reopen(st: &mut State<'_>, last: Group, group: GroupState) -> Result<Option<Token>, Fault>
+    ensures { GoesAs result option_to_list (state_view st.new) (moves.with_groups (state_view st.old)
+        (record last { state = group } ∷ (state_view st.old).groups)) }
 {
     st.groups.push(Group {
-        place: group.place,
-        is_taken,
-        was_taken,
-        had_else: group.had_else,
+        place: last.place,
+        state: group,
+        had_else: last.had_else,
     })?;
     Ok(None)
 }
 
 fn taken_if<'a>(
-    alloc: Global,
-    tokens: &'a Builtins,
     st: &mut State<'a>,
     place: Place,
     line: &'a [Token],
     done: &mut Vec<Token>,
     count: u64,
 ) -> Result<u64, Fault>
-    ensures { DoesAs result (table st.old.macros) count
-        (moves.condition place (moves.opened (state st.old) place) (moves.with_answers (table st.old.macros) 0 line.now))
-        (state st.new) done.old.items done.new.items }
+    ensures { DoesAs result (state_view st.old) count (moves.decides place line.now (group place Waits) (state_view st.old).groups)
+        (state_view st.new) done.old.items done.new.items }
 {
-    let (holds, count) = holds(alloc, tokens, &st.macros, place, line, count)?;
-    let given = open(st, place, holds);
+    let (holds, count) = holds(st.alloc, st.tokens, &st.macros, place, line, count)?;
+    let given = open(st, place, by_condition(holds));
     give(done, given, count)
 }
 
 fn other_if<'a>(
-    alloc: Global,
-    tokens: &'a Builtins,
     st: &mut State<'a>,
     place: Place,
     line: &'a [Token],
     done: &mut Vec<Token>,
     count: u64,
 ) -> Result<u64, Fault>
-    ensures { DoesAs result (table st.old.macros) count (moves.other_if (state st.old) place line.now (state st.old).groups)
-        (state st.new) done.old.items done.new.items }
+    ensures { DoesAs result (state_view st.old) count (moves.on_elif (state_view st.old) place line.now (state_view st.old).groups)
+        (state_view st.new) done.old.items done.new.items }
 {
     let Some(group) = st.groups.pop() else {
-        return refuse(Rule::OpenConditional, place);
+        return Err(Fault::refused(Rule::OpenConditional, place));
     };
     if group.had_else {
-        return refuse(Rule::OpenConditional, place);
+        return Err(Fault::refused(Rule::OpenConditional, place));
     }
-    if group.was_taken {
-        let given = reopen(st, group, false, group.was_taken);
+    if !waits(group.state) {
+        let given = reopen(st, group, GroupState::Over);
         return give(done, given, count);
     }
-    let (holds, count) = holds(alloc, tokens, &st.macros, place, line, count)?;
-    let given = reopen(st, group, holds, holds);
+    let (holds, count) = holds(st.alloc, st.tokens, &st.macros, place, line, count)?;
+    let given = reopen(st, group, by_condition(holds));
     give(done, given, count)
 }
 
 fn taken_directive<'a>(
-    alloc: Global,
-    tokens: &'a Builtins,
     st: &mut State<'a>,
     hash: &Token,
     word: Word,
@@ -322,64 +313,64 @@ fn taken_directive<'a>(
     done: &mut Vec<Token>,
     count: u64,
 ) -> Result<u64, Fault>
-    ensures { DoesAs result (table st.old.macros) count (moves.taken_directive (state st.old) hash.now line.now word)
-        (state st.new) done.old.items done.new.items }
+    ensures { DoesAs result (state_view st.old) count (moves.taken_directive (state_view st.old) hash.now line.now word)
+        (state_view st.new) done.old.items done.new.items }
 {
     let place = hash.place;
     match word {
-        Word::If => taken_if(alloc, tokens, st, place, line, done, count),
-        Word::Ifdef => give(done, if_defined(st, place, true, line), count),
-        Word::Ifndef => give(done, if_defined(st, place, false, line), count),
-        Word::Include => give(done, include(alloc, tokens, st, hash, line), count),
-        Word::Define => give(done, define(alloc, st, place, line), count),
+        Word::If => taken_if(st, place, line, done, count),
+        Word::Ifdef => give(done, ifdef(st, place, line), count),
+        Word::Ifndef => give(done, ifndef(st, place, line), count),
+        Word::Include => give(done, include(st, hash, line), count),
+        Word::Define => give(done, define(st, place, line), count),
         Word::Undef => give(done, undefine(st, place, line), count),
-        _ => refuse(Rule::UnknownDirective, place),
+        _ => Err(Fault::refused(Rule::UnknownDirective, place)),
     }
 }
 
 /// In a skipped group only conditionals are looked at.
 fn skipped_directive(
     st: &mut State<'_>,
-    place: Place,
+    hash: &Token,
     word: Word,
     done: &mut Vec<Token>,
     count: u64,
 ) -> Result<u64, Fault>
-    ensures { (ms : Macros) (hash : Token) → hash.place ≡ place → DoesAs result ms count (moves.skipped_directive (state st.old) hash word)
-        (state st.new) done.old.items done.new.items }
+    ensures { DoesAs result (state_view st.old) count (moves.skipped_directive (state_view st.old) hash.now word)
+        (state_view st.new) done.old.items done.new.items }
 {
     match word {
-        Word::If | Word::Ifdef | Word::Ifndef => give(done, skip(st, place), count),
+        Word::If | Word::Ifdef | Word::Ifndef => {
+            give(done, open(st, hash.place, GroupState::Over), count)
+        }
         _ => Ok(count),
     }
 }
 
 /// A directive, at its `#`, with the further tokens of its line. The tokens that it gives go behind those done.
 pub fn directive<'a>(
-    alloc: Global,
-    tokens: &'a Builtins,
     st: &mut State<'a>,
     hash: &Token,
     line: &'a [Token],
     done: &mut Vec<Token>,
     count: u64,
 ) -> Result<u64, Fault>
-    ensures { DoesAs result (table st.old.macros) count (moves.on_directive (state st.old) hash.now line.now)
-        (state st.new) done.old.items done.new.items }
+    ensures { DoesAs result (state_view st.old) count (moves.on_directive (state_view st.old) hash.now line.now)
+        (state_view st.new) done.old.items done.new.items }
 {
     if line.is_empty() {
         return Ok(count);
     }
     let rest = after(line, 1);
-    match word_of(&line[0].kind) {
-        Word::Elif => other_if(alloc, tokens, st, hash.place, rest, done, count),
+    match directive_word(&line[0].kind) {
+        Word::Elif => other_if(st, hash.place, rest, done, count),
         Word::Else => give(done, otherwise(st, hash.place), count),
         Word::Endif => give(done, end(st, hash.place), count),
         word => {
             if takes(&st.groups) {
-                taken_directive(alloc, tokens, st, hash, word, rest, done, count)
+                taken_directive(st, hash, word, rest, done, count)
             } else {
-                skipped_directive(st, hash.place, word, done, count)
+                skipped_directive(st, hash, word, done, count)
             }
         }
     }

@@ -8,7 +8,7 @@ ghost use Rattle.macro_meaning.specs.Expansion.{Expanded, IsExpanded, Moved};
 ghost use Rattle.c_tokens.specs.Pieces.{IsLexedKind};
 ghost use Rattle.macro_meaning.specs.Moves as moves;
 ghost use Rattle.macro_items.specs.Views.{table, views};
-ghost use Rattle.c_macros.specs.States.{state, EndsAs};
+ghost use Rattle.c_macros.specs.States.{state_view, EndsAs};
 ghost use Rattle.macro_lines.specs.Lines.{PartIs};
 ghost use Rattle.macro_lines.specs.declared.GroupPart.TheVariants as part;
 ghost use Rattle.macro_replacement.specs.Replacing.{AddsAs};
@@ -21,7 +21,7 @@ use indexmap::IndexMap;
 use macro_definitions::{State, set_macro, takes};
 use macro_items::{Item, Macros};
 use macro_lines::{
-    Builtins, GroupPart, after, first, fortify_source, item, make_builtins, part_of, refuse,
+    Builtins, GroupPart, after, first, fortify_source, item, make_builtins, part_of,
 };
 use macro_meaning::Group;
 use macro_replacement::append_replaced;
@@ -52,7 +52,7 @@ fn take_text<'a>(
 }
 
 fn start<'a>(alloc: Global, tokens: &'a Builtins, level: Level) -> Result<State<'a>, AllocError>
-    ensures { IfOk result (λ st. state st ≡ moves.start level) }
+    ensures { IfOk result (λ st. state_view st ≡ moves.start level) }
 {
     let mut macros = IndexMap::new(alloc);
     let (name, meaning) = fortify_source(alloc, tokens, level)?;
@@ -60,6 +60,8 @@ fn start<'a>(alloc: Global, tokens: &'a Builtins, level: Level) -> Result<State<
     let groups = Vec::new(alloc);
     let headers = Vec::new(alloc);
     Ok(State {
+        alloc,
+        tokens,
         macros,
         groups,
         headers,
@@ -73,13 +75,12 @@ fn finish(groups: &[Group]) -> Result<(), Fault>
     if groups.is_empty() {
         Ok(())
     } else {
-        refuse(Rule::OpenConditional, groups[0].place)
+        Err(Fault::refused(Rule::OpenConditional, groups[0].place))
     }
 }
 
 /// A text at the front of the list, which is expanded where its group is taken.
 fn text_part<'a>(
-    alloc: Global,
     st: &State<'a>,
     rest: &'a [Token],
     n: usize,
@@ -87,10 +88,10 @@ fn text_part<'a>(
     count: u64,
 ) -> Result<u64, Fault>
     requires { PartIs rest.now (part.Text n) }
-    ensures { DoesAs result (table st.now.macros) count (moves.move (state st.now) rest.now) (state st.now) done.old.items done.new.items }
+    ensures { DoesAs result (state_view st.now) count (moves.move (state_view st.now) rest.now) (state_view st.now) done.old.items done.new.items }
 {
     if takes(&st.groups) {
-        take_text(alloc, &st.macros, first(rest, n), done, count)
+        take_text(st.alloc, &st.macros, first(rest, n), done, count)
     } else {
         Ok(count)
     }
@@ -98,8 +99,6 @@ fn text_part<'a>(
 
 /// A directive at the front of the list.
 fn line_part<'a>(
-    alloc: Global,
-    tokens: &'a Builtins,
     st: &mut State<'a>,
     rest: &'a [Token],
     n: usize,
@@ -107,22 +106,20 @@ fn line_part<'a>(
     count: u64,
 ) -> Result<u64, Fault>
     requires { PartIs rest.now (part.Line n) }
-    ensures { DoesAs result (table st.old.macros) count (moves.move (state st.old) rest.now) (state st.new) done.old.items done.new.items }
+    ensures { DoesAs result (state_view st.old) count (moves.move (state_view st.old) rest.now) (state_view st.new) done.old.items done.new.items }
 {
     let line = first(after(rest, 1), n);
-    directive(alloc, tokens, st, &rest[0], line, done, count)
+    directive(st, &rest[0], line, done, count)
 }
 
 /// Goes through the list part by part, and puts what the parts give into the empty list `done`.
 fn take_parts<'a>(
-    alloc: Global,
-    tokens: &'a Builtins,
     source: &'a [Token],
     st: &mut State<'a>,
     done: &mut Vec<Token>,
 ) -> Result<(), Fault>
     requires { done.old.items ≡ [] }
-    ensures { Answers (λ u. done.new.items) result (Moved (state st.old) (length source.now) source.now) }
+    ensures { Answers (λ u. done.new.items) result (Moved (state_view st.old) (length source.now) source.now) }
 {
     let mut count = source.len() as u64;
     let mut at = 0;
@@ -131,11 +128,11 @@ fn take_parts<'a>(
         match part_of(rest) {
             GroupPart::Nothing => return finish(&st.groups),
             GroupPart::Text(n) => {
-                count = text_part(alloc, st, rest, n, done, count)?;
+                count = text_part(st, rest, n, done, count)?;
                 at += n;
             }
             GroupPart::Line(n) => {
-                count = line_part(alloc, tokens, st, rest, n, done, count)?;
+                count = line_part(st, rest, n, done, count)?;
                 at += n + 1;
             }
         }
@@ -152,7 +149,7 @@ fn run<'a>(
 {
     let mut st = start(alloc, tokens, level)?;
     let mut done = Vec::new(alloc);
-    let end = take_parts(alloc, tokens, source, &mut st, &mut done);
+    let end = take_parts(source, &mut st, &mut done);
     drop(st);
     match end {
         Ok(()) => Ok(done),

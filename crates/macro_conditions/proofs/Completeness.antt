@@ -11,8 +11,8 @@ use Rattle.macro_conditions.specs.Values.{is_true, combined, evaluates_right, pr
 use Rattle.macro_conditions.specs.Trees.{Tree, sequence, level_of, Reads, tighter, number, constant, name, brackets, operand, operation, conditional_of, comma, value, conditional}
 use Rattle.macro_conditions.specs.declared.machine.Frame.{Frame}
 use Rattle.macro_conditions.specs.declared.machine.Frame.TheVariants.{Bracket, Sign, Left, Question as Asks, Colon as Chooses, Comma as Follows}
-use Rattle.macro_conditions.specs.Machine.{completes, applied, restored, Operand, reduced, wants, has, on_operator, holds_comma, run, alone}
-use Rattle.macro_conditions.proofs.Levels.{level_bounds, pull_of, pull_bound, pull_is, on_punct_is, on_prefix_is, need, stuck, stuck_loose, operand as read}
+use Rattle.macro_conditions.specs.Machine.{completes, applied, restored, Operand, reduced, wants, has, on_operator, holds_comma, own_level, run, alone}
+use Rattle.macro_conditions.proofs.Levels.{level_bounds, pull_of, pull_bound, own_is, pull_is, on_punct_is, on_prefix_is, need, stuck, stuck_loose, operand as read}
 
 abbrev pub resume : List Frame → Bool → Option Value → List TokenKind → Option Value
 resume fs e None ts = None
@@ -23,11 +23,13 @@ through : (fs gs : List Frame) (e d : Bool) (o : Option Value) (F : Value → Op
 through fs gs e d None F ts us h = refl
 through fs gs e d (Some a) F ts us h = h a
 
-taken : (f : Frame) (fs : List Frame) (l : ℕ) (e : Bool) (v : Value) → completes l f ≡ true → reduced l (f ∷ fs) e v ≡ option_and_then (reduced l fs (restored f e)) (applied f v)
+taken : (f : Frame) (fs : List Frame) (l : ℕ) (e : Bool) (v : Value) → completes l f ≡ true
+    → reduced l (f ∷ fs) e v ≡ option_and_then (reduced l fs (restored f e)) (applied f v)
 taken f fs l e v h = rw h refl
 
 -- a frame that the next token completes
-pub popped : (f : Frame) (fs : List Frame) (e : Bool) (v : Value) (ts : List TokenKind) → completes (pull_of ts) f ≡ true → run (has (f ∷ fs) e v) ts ≡ resume fs (restored f e) (applied f v) ts
+pub popped : (f : Frame) (fs : List Frame) (e : Bool) (v : Value) (ts : List TokenKind) → completes (pull_of ts) f ≡ true
+    → run (has (f ∷ fs) e v) ts ≡ resume fs (restored f e) (applied f v) ts
 popped f fs e v [] h = ap (option_and_then alone) (taken f fs 0 e v h) ∙ by (applied f v)
   where
     by : (o : Option Value) → option_and_then alone (option_and_then (reduced 0 fs (restored f e)) o) ≡ resume fs (restored f e) o []
@@ -36,7 +38,8 @@ popped f fs e v [] h = ap (option_and_then alone) (taken f fs 0 e v h) ∙ by (a
 popped f fs e v (t ∷ ts) h =
     ap (λ (o : Option Operand). option_and_then (λ next. run next ts) (option_and_then (on_operator t) o)) (taken f fs (pull_of (t ∷ ts)) e v h) ∙ by (applied f v)
   where
-    by : (o : Option Value) → option_and_then (λ next. run next ts) (option_and_then (on_operator t) (option_and_then (reduced (pull_of (t ∷ ts)) fs (restored f e)) o)) ≡ resume fs (restored f e) o (t ∷ ts)
+    by : (o : Option Value)
+        → option_and_then (λ next. run next ts) (option_and_then (on_operator t) (option_and_then (reduced (pull_of (t ∷ ts)) fs (restored f e)) o)) ≡ resume fs (restored f e) o (t ∷ ts)
     by None = refl
     by (Some w) = refl
 
@@ -49,11 +52,12 @@ asked : (t : TokenKind) (fs : List Frame) (e : Bool) (v : Value) (ts : List Toke
 asked t fs e v ts h = ap (λ (o : Option Operand). option_and_then (λ next. run next ts) (option_and_then (on_operator t) o)) h
 
 on_binary_token : (p : Punct) (l : ℕ) (fs : List Frame) (e : Bool) (a : Value) (ts : List TokenKind) → level_of p ≡ Some l → need fs ≤ l
-    → run (has fs e a) (token.Punct p ∷ ts) ≡ run (wants (Left p l a e ∷ fs) (evaluates_right e p a)) ts
+    → run (has fs e a) (token.Punct p ∷ ts) ≡ run (wants (Left p a e ∷ fs) (evaluates_right e p a)) ts
 on_binary_token p l fs e a ts h n =
     let b = level_bounds p l h in
     let s : reduced (pull_of (token.Punct p ∷ ts)) fs e a ≡ read fs e a = rw (pull_is p l h) (stuck fs l e a n b.0) in
-    asked (token.Punct p) fs e a ts s ∙ ap (option_and_then (λ next. run next ts)) (on_punct_is p l (record { stack = fs; evaluated = e; value = a }) h)
+    asked (token.Punct p) fs e a ts s
+    ∙ ap (option_and_then (λ next. run next ts)) (on_punct_is p l (record { stack = fs; evaluated = e; value = a }) h)
 
 on_question_token : (fs : List Frame) (e : Bool) (c : Value) (ts : List TokenKind) → need fs ≤ 1
     → run (has fs e c) (token.Punct punct.Question ∷ ts) ≡ run (wants (Asks c e ∷ fs) (e && is_true c)) ts
@@ -63,7 +67,7 @@ comma_held : (fs : List Frame) → need fs ≤ 0 → holds_comma fs ≡ true
 comma_held [] n = absurd (omega arith)
 comma_held (Bracket x ∷ fs) n = refl
 comma_held (Sign p ∷ fs) n = absurd (omega arith)
-comma_held (Left p k a x ∷ fs) n = absurd (omega arith)
+comma_held (Left p a x ∷ fs) n = absurd (omega arith)
 comma_held (Asks c x ∷ fs) n = refl
 comma_held (Chooses c a x ∷ fs) n = absurd (omega arith)
 comma_held (Follows ∷ fs) n = absurd (omega arith)
@@ -72,11 +76,13 @@ on_comma_token : (fs : List Frame) (e : Bool) (v : Value) (ts : List TokenKind) 
     → run (has fs e v) (token.Punct punct.Comma ∷ ts) ≡ (if e then None else run (wants (Follows ∷ fs) false) ts)
 on_comma_token fs e v ts n = asked (token.Punct punct.Comma) fs e v ts (stuck_loose fs 0 e v n) ∙ by e
   where
-    by : (d : Bool) → option_and_then (λ next. run next ts) (if holds_comma fs && not d then Some (wants (Follows ∷ fs) false) else None) ≡ (if d then None else run (wants (Follows ∷ fs) false) ts)
+    by : (d : Bool)
+        → option_and_then (λ next. run next ts) (if holds_comma fs && not d then Some (wants (Follows ∷ fs) false) else None) ≡ (if d then None else run (wants (Follows ∷ fs) false) ts)
     by true = rw (comma_held fs n) refl
     by false = rw (comma_held fs n) refl
 
-some_of : (fs : List Frame) (o : Option Value) (u : List TokenKind) → resume fs false (option_and_then (λ b. Some b) o) u ≡ resume fs false o u
+some_of : (fs : List Frame) (o : Option Value) (u : List TokenKind)
+    → resume fs false (option_and_then (λ b. Some b) o) u ≡ resume fs false o u
 some_of fs None u = refl
 some_of fs (Some b) u = refl
 
@@ -94,7 +100,8 @@ on_sequence fs false x y t u n h r =
     ∙ through (Follows ∷ fs) fs false false (value false y) (λ b. Some b) u u (λ b. popped Follows fs false b u (within (pull_of u) 0 h))
     ∙ some_of fs (value false y) u)
 
-pub complete : {l : ℕ} {s t : List TokenKind} {x : Tree} → Reads l s x t → (fs : List Frame) (e : Bool) → need fs ≤ l → pull_of t ≤ l → run (wants fs e) s ≡ resume fs e (value e x) t
+pub complete : {l : ℕ} {s t : List TokenKind} {x : Tree} → Reads l s x t → (fs : List Frame) (e : Bool) → need fs ≤ l → pull_of t ≤ l
+    → run (wants fs e) s ≡ resume fs e (value e x) t
 complete (tighter r) fs e n h = complete r fs e (omega arith) (omega arith)
 complete number fs e n h = refl
 complete constant fs e n h = refl
@@ -112,9 +119,9 @@ complete (operation {l = l} {p = p} {t = t} {u = u} {x = x} {y = y} q r w) fs e 
     complete r fs e n (let same = pull_is p l q in omega arith)
     ∙ through fs fs e e (value e x) (λ a. option_and_then (λ b. combined e p a b) (value (evaluates_right e p a) y)) (token.Punct p ∷ t) u (λ a.
     on_binary_token p l fs e a t q n
-    ∙ complete w (Left p l a e ∷ fs) (evaluates_right e p a) (omega arith) (omega arith)
-    ∙ through (Left p l a e ∷ fs) fs (evaluates_right e p a) e (value (evaluates_right e p a) y) (λ b. combined e p a b) u u (λ b.
-    popped (Left p l a e) fs (evaluates_right e p a) b u (within (pull_of u) l h)))
+    ∙ complete w (Left p a e ∷ fs) (evaluates_right e p a) (let same = own_is p l q in omega arith) (omega arith)
+    ∙ through (Left p a e ∷ fs) fs (evaluates_right e p a) e (value (evaluates_right e p a) y) (λ b. combined e p a b) u u (λ b.
+    popped (Left p a e) fs (evaluates_right e p a) b u (within (pull_of u) (own_level p) (let same = own_is p l q in omega arith))))
 complete (conditional_of {t = t} {u = u} {v = v} {c = c} {x = x} {y = y} q r w) fs e n h =
     complete q fs e (omega arith) (omega arith)
     ∙ through fs fs e e (value e c) (λ k. option_and_then (λ a. option_and_then (λ b. Some (chosen k a b)) (value (e && not (is_true k)) y)) (value (e && is_true k) x)) (token.Punct punct.Question ∷ t) v (λ k.

@@ -10,7 +10,8 @@ use Rattle.macro_conditions.proofs.Completeness.{complete_whole}
 use Rattle.macro_conditions.proofs.Soundness.{sound}
 
 -- no machine reads what has no value
-misses : (line : List TokenKind) → ((x : Tree) → Reads conditional line x [] → value true x ≡ None) → (o : Option Value) → run (wants [] true) line ≡ o → None ≡ option_map is_true o
+misses : (line : List TokenKind) → ((x : Tree) → Reads conditional line x [] → value true x ≡ None) → (o : Option Value)
+    → run (wants [] true) line ≡ o → None ≡ option_map is_true o
 misses line h None e = refl
 misses line h (Some v) e = let f = sound line v e in let n = h f.tree f.reads in let g = f.is in cc
 

@@ -1,5 +1,6 @@
 -- The levels of operators and of the frames that wait.
 use Rattle.std.proofs.Common.{◌≡◌, ℕ, suc, ◌≤◌, nat_le, Bool, true, false, ◌&&◌, if◌then◌else◌, List, [], ◌∷◌, Option, Some, None, refl, sym, ap, ◌∙◌, arith}
+use Rattle.std.specs.Option.{unwrap_or}
 use Rattle.std.proofs.lemmas.Bool.Decides.{nat_tests}
 use Rattle.c_tokens.specs.declared.Punct.{Punct}
 use Rattle.c_tokens.specs.declared.Punct.TheVariants as punct
@@ -10,7 +11,7 @@ use Rattle.macro_conditions.specs.Values.{evaluates_right}
 use Rattle.macro_conditions.specs.Trees.{level_of, is_prefix}
 use Rattle.macro_conditions.specs.declared.machine.Frame.{Frame}
 use Rattle.macro_conditions.specs.declared.machine.Frame.TheVariants.{Bracket, Sign, Left, Question as Asks, Colon as Chooses, Comma as Follows}
-use Rattle.macro_conditions.specs.Machine.{completes, Operand, reduced, wants, on_prefix, level_or, punct_pull, pull, on_binary, on_punct}
+use Rattle.macro_conditions.specs.Machine.{completes, Operand, reduced, wants, on_prefix, own_level, punct_pull, pull, on_binary, on_punct}
 
 -- ---- operators
 
@@ -52,12 +53,15 @@ pull_bound (token.Str n ∷ ts) = omega arith
 pull_bound (token.HeaderName n ∷ ts) = omega arith
 pull_bound (token.Header n ∷ ts) = omega arith
 
+pub own_is : (p : Punct) (l : ℕ) → level_of p ≡ Some l → own_level p ≡ l
+own_is p l e = ap (λ o. unwrap_or o 0) e
+
 pub pull_is : (p : Punct) (l : ℕ) → level_of p ≡ Some l → punct_pull p ≡ l
 pull_is punct.Question l e = cc
-pull_is _ l e = ap (level_or 0) e
+pull_is _ l e = ap (λ o. unwrap_or o 0) e
 
 pub on_punct_is : (p : Punct) (l : ℕ) (o : Operand) → level_of p ≡ Some l
-    → on_punct p o ≡ Some (wants (Left p l o.value o.evaluated ∷ o.stack) (evaluates_right o.evaluated p o.value))
+    → on_punct p o ≡ Some (wants (Left p o.value o.evaluated ∷ o.stack) (evaluates_right o.evaluated p o.value))
 on_punct_is punct.Question l o e = cc
 on_punct_is punct.Colon l o e = cc
 on_punct_is punct.RightParen l o e = cc
@@ -75,7 +79,7 @@ abbrev pub need : List Frame → ℕ
 need [] = 1
 need (Bracket e ∷ fs) = 0
 need (Sign p ∷ fs) = 12
-need (Left p k a e ∷ fs) = suc k
+need (Left p a e ∷ fs) = suc (own_level p)
 need (Asks c e ∷ fs) = 0
 need (Chooses c a e ∷ fs) = 1
 need (Follows ∷ fs) = 1
@@ -86,14 +90,15 @@ over l k le = grind (arith, nat_tests)
 abbrev pub operand : List Frame → Bool → Value → Option Operand
 operand fs e v = Some (record { stack = fs; evaluated = e; value = v })
 
-stays : (f : Frame) (fs : List Frame) (l : ℕ) (e : Bool) (v : Value) → completes l f ≡ false → reduced l (f ∷ fs) e v ≡ operand (f ∷ fs) e v
+stays : (f : Frame) (fs : List Frame) (l : ℕ) (e : Bool) (v : Value) → completes l f ≡ false
+    → reduced l (f ∷ fs) e v ≡ operand (f ∷ fs) e v
 stays f fs l e v h = rw h refl
 
 pub stuck : (fs : List Frame) (l : ℕ) (e : Bool) (v : Value) → need fs ≤ l → 2 ≤ l → reduced l fs e v ≡ operand fs e v
 stuck [] l e v n h = refl
 stuck (Bracket x ∷ fs) l e v n h = refl
 stuck (Sign p ∷ fs) l e v n h = stays (Sign p) fs l e v (over l 11 n)
-stuck (Left p k a x ∷ fs) l e v n h = stays (Left p k a x) fs l e v (over l k n)
+stuck (Left p a x ∷ fs) l e v n h = stays (Left p a x) fs l e v (over l (own_level p) n)
 stuck (Asks c x ∷ fs) l e v n h = refl
 stuck (Chooses c a x ∷ fs) l e v n h = stays (Chooses c a x) fs l e v (over l 1 h)
 stuck (Follows ∷ fs) l e v n h = stays Follows fs l e v (over l 0 (omega arith))
@@ -103,7 +108,7 @@ pub stuck_loose : (fs : List Frame) (l : ℕ) (e : Bool) (v : Value) → need fs
 stuck_loose [] l e v n = absurd (omega arith)
 stuck_loose (Bracket x ∷ fs) l e v n = refl
 stuck_loose (Sign p ∷ fs) l e v n = absurd (omega arith)
-stuck_loose (Left p k a x ∷ fs) l e v n = absurd (omega arith)
+stuck_loose (Left p a x ∷ fs) l e v n = absurd (omega arith)
 stuck_loose (Asks c x ∷ fs) l e v n = refl
 stuck_loose (Chooses c a x ∷ fs) l e v n = absurd (omega arith)
 stuck_loose (Follows ∷ fs) l e v n = absurd (omega arith)

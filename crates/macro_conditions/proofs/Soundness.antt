@@ -7,12 +7,12 @@ use Rattle.c_tokens.specs.declared.Punct.TheVariants as punct
 use Rattle.c_tokens.specs.declared.TokenKind.{TokenKind}
 use Rattle.c_tokens.specs.declared.TokenKind.TheVariants as token
 use Rattle.macro_conditions.specs.declared.values.Value.{Value}
-use Rattle.macro_conditions.specs.Values.{is_true, truth, literal, character, combined, evaluates_right, prefixed, chosen}
+use Rattle.macro_conditions.specs.Values.{is_true, truth, literal_value, character_value, combined, evaluates_right, prefixed, chosen}
 use Rattle.macro_conditions.specs.Trees.{Tree, unary, binary, choice, sequence, level_of, is_prefix, Reads, tighter, number, constant, name, brackets, operand, operation, conditional_of, comma, value, conditional}
 use Rattle.macro_conditions.specs.declared.machine.Frame.{Frame}
 use Rattle.macro_conditions.specs.declared.machine.Frame.TheVariants.{Bracket, Sign, Left, Question as Asks, Colon as Chooses, Comma as Follows}
-use Rattle.macro_conditions.specs.Machine.{completes, applied, restored, Operand, reduced, Phase, wants, has, on_prefix, on_operand, on_operator, on_punct, on_binary, on_colon, on_close, holds_comma, punct_pull, pull, step, finish, run, whole, alone}
-use Rattle.macro_conditions.proofs.Levels.{level_bounds, pull_is, need}
+use Rattle.macro_conditions.specs.Machine.{completes, applied, restored, Operand, reduced, Phase, wants, has, on_prefix, on_operand, on_operator, on_punct, on_binary, on_colon, on_close, holds_comma, own_level, punct_pull, pull, step, finish, run, whole, alone}
+use Rattle.macro_conditions.proofs.Levels.{level_bounds, own_is, pull_is, need}
 
 -- ---- a looser level reads all that a tighter one does
 
@@ -27,15 +27,22 @@ looser {l} {k} le r = let e : l ≡ k + (l - k) = omega arith in looser_by (l - 
 
 pub data Open (all : List TokenKind) : List Frame → Bool → List TokenKind → Type 0 where
   at_start : Open all [] true all
-  in_bracket : {fs : List Frame} {e : Bool} {s : List TokenKind} → Open all fs e (token.Punct punct.LeftParen ∷ s) → Open all (Bracket e ∷ fs) e s
-  in_sign : {fs : List Frame} {e : Bool} {p : Punct} {s : List TokenKind} → Open all fs e (token.Punct p ∷ s) → is_prefix p ≡ true → Open all (Sign p ∷ fs) e s
-  in_left : {fs : List Frame} {e : Bool} {s t : List TokenKind} {p : Punct} {l : ℕ} {x : Tree} {a : Value} → Open all fs e s → level_of p ≡ Some l → Reads l s x (token.Punct p ∷ t) → value e x ≡ Some a
-      → need fs ≤ l → Open all (Left p l a e ∷ fs) (evaluates_right e p a) t
-  in_question : {fs : List Frame} {e : Bool} {s t : List TokenKind} {c : Tree} {k : Value} → Open all fs e s → Reads 2 s c (token.Punct punct.Question ∷ t) → value e c ≡ Some k
+  in_bracket : {fs : List Frame} {e : Bool} {s : List TokenKind} → Open all fs e (token.Punct punct.LeftParen ∷ s)
+      → Open all (Bracket e ∷ fs) e s
+  in_sign : {fs : List Frame} {e : Bool} {p : Punct} {s : List TokenKind} → Open all fs e (token.Punct p ∷ s) → is_prefix p ≡ true
+      → Open all (Sign p ∷ fs) e s
+  in_left : {fs : List Frame} {e : Bool} {s t : List TokenKind} {p : Punct} {l : ℕ} {x : Tree} {a : Value} → Open all fs e s
+      → level_of p ≡ Some l → Reads l s x (token.Punct p ∷ t) → value e x ≡ Some a
+      → need fs ≤ l → Open all (Left p a e ∷ fs) (evaluates_right e p a) t
+  in_question : {fs : List Frame} {e : Bool} {s t : List TokenKind} {c : Tree} {k : Value} → Open all fs e s
+      → Reads 2 s c (token.Punct punct.Question ∷ t) → value e c ≡ Some k
       → need fs ≤ 1 → Open all (Asks k e ∷ fs) (e && is_true k) t
-  in_colon : {fs : List Frame} {e : Bool} {s t u : List TokenKind} {c x : Tree} {k a : Value} → Open all fs e s → Reads 2 s c (token.Punct punct.Question ∷ t) → value e c ≡ Some k
-      → Reads 0 t x (token.Punct punct.Colon ∷ u) → value (e && is_true k) x ≡ Some a → need fs ≤ 1 → Open all (Chooses k a e ∷ fs) (e && not (is_true k)) u
-  in_comma : {fs : List Frame} {s t : List TokenKind} {x : Tree} {a : Value} → Open all fs false s → Reads 0 s x (token.Punct punct.Comma ∷ t) → value false x ≡ Some a
+  in_colon : {fs : List Frame} {e : Bool} {s t u : List TokenKind} {c x : Tree} {k a : Value} → Open all fs e s
+      → Reads 2 s c (token.Punct punct.Question ∷ t) → value e c ≡ Some k
+      → Reads 0 t x (token.Punct punct.Colon ∷ u) → value (e && is_true k) x ≡ Some a → need fs ≤ 1
+      → Open all (Chooses k a e ∷ fs) (e && not (is_true k)) u
+  in_comma : {fs : List Frame} {s t : List TokenKind} {x : Tree} {a : Value} → Open all fs false s
+      → Reads 0 s x (token.Punct punct.Comma ∷ t) → value false x ≡ Some a
       → need fs ≤ 0 → Open all (Follows ∷ fs) false t
 
 -- an operand behind the stack, of a level that it takes
@@ -54,10 +61,12 @@ pub record Read (all : List TokenKind) (low : ℕ) (fs : List Frame) (e : Bool) 
 passes : (l k : ℕ) → nat_le l k ≡ true → l ≤ k
 passes l k e = grind (arith, nat_tests)
 
-binary_value : (e : Bool) (p : Punct) (x y : Tree) (a b : Value) → value e x ≡ Some a → value (evaluates_right e p a) y ≡ Some b → value e (binary p x y) ≡ combined e p a b
+binary_value : (e : Bool) (p : Punct) (x y : Tree) (a b : Value) → value e x ≡ Some a → value (evaluates_right e p a) y ≡ Some b
+    → value e (binary p x y) ≡ combined e p a b
 binary_value e p x y a b h g = rw (h, g) refl
 
-choice_value : (e : Bool) (c x y : Tree) (k a b : Value) → value e c ≡ Some k → value (e && is_true k) x ≡ Some a → value (e && not (is_true k)) y ≡ Some b
+choice_value : (e : Bool) (c x y : Tree) (k a b : Value) → value e c ≡ Some k → value (e && is_true k) x ≡ Some a
+    → value (e && not (is_true k)) y ≡ Some b
     → value e (choice c x y) ≡ Some (chosen k a b)
 choice_value e c x y k a b h g f = rw (h, g, f) refl
 
@@ -71,14 +80,15 @@ signs : (fs : List Frame) (all : List TokenKind) (e : Bool) (s : List TokenKind)
 signs [] all e s o = omega arith
 signs (Bracket x ∷ fs) all e s o = omega arith
 signs (Sign p ∷ fs) all e s o = omega arith
-signs (Left p l a x ∷ fs) all e s (in_left {p = p'} {l = l'} o q r h n) = let b = level_bounds p' l' q in omega arith
+signs (Left p a x ∷ fs) all e s (in_left {p = p'} {l = l'} o q r h n) = let b = level_bounds p' l' q in let same = own_is p' l' q in omega arith
 signs (Asks c x ∷ fs) all e s o = omega arith
 signs (Chooses c a x ∷ fs) all e s o = omega arith
 signs (Follows ∷ fs) all e s o = omega arith
 
 -- the operand becomes the last one of the frame
 module _ (all : List TokenKind) (l : ℕ) (v w : Value) (t : List TokenKind) where
-  popped_by : (f : Frame) (fs : List Frame) (e : Bool) (s : List TokenKind) (k : ℕ) (y : Tree) → completes l f ≡ true → applied f v ≡ Some w
+  popped_by : (f : Frame) (fs : List Frame) (e : Bool) (s : List TokenKind) (k : ℕ) (y : Tree) → completes l f ≡ true
+      → applied f v ≡ Some w
       → Open all (f ∷ fs) e s → Reads k s y t → value e y ≡ Some v → need (f ∷ fs) ≤ k → Read all l fs (restored f e) w t
   popped_by (Bracket x) fs e s k y c a o r h n = cc
   popped_by (Asks q x) fs e s k y c a o r h n = cc
@@ -92,15 +102,15 @@ module _ (all : List TokenKind) (l : ℕ) (v w : Value) (t : List TokenKind) whe
     taken = signs fs all e (token.Punct p ∷ s) o;
     high = (let d = passes l 11 c in omega arith);
   }
-  popped_by (Left p m b e') fs e s k y c a (in_left {s = s'} {x = x} o q d g n') r h n = record {
+  popped_by (Left p b e') fs e s k y c a (in_left {s = s'} {l = m} {x = x} o q d g n') r h n = record {
     start = s';
     level = m;
     tree = binary p x y;
     opened = o;
-    reads = operation q d (looser n r);
+    reads = operation q d (looser (let same = own_is p m q in omega arith) r);
     is = binary_value e' p x y b v g h ∙ a;
     taken = n';
-    high = passes l m c;
+    high = (let same = own_is p m q in let le = passes l (own_level p) c in omega arith);
   }
   popped_by (Chooses q b e') fs e s k y c a (in_colon {s = s'} {c = i} {x = x} o d g f j n') r h n = record {
     start = s';
@@ -123,7 +133,8 @@ module _ (all : List TokenKind) (l : ℕ) (v w : Value) (t : List TokenKind) whe
     high = passes l 0 c;
   }
 
-popped : (all : List TokenKind) (l : ℕ) (f : Frame) (fs : List Frame) (e : Bool) (v w : Value) (t : List TokenKind) → completes l f ≡ true → applied f v ≡ Some w
+popped : (all : List TokenKind) (l : ℕ) (f : Frame) (fs : List Frame) (e : Bool) (v w : Value) (t : List TokenKind) → completes l f ≡ true
+    → applied f v ≡ Some w
     → Read all l (f ∷ fs) e v t → Read all l fs (restored f e) w t
 popped all l f fs e v w t c a r = popped_by all l v w t f fs e r.start r.level r.tree c a r.opened r.reads r.is r.taken
 
@@ -142,7 +153,8 @@ module _ (all : List TokenKind) (l : ℕ) (t : List TokenKind) where
   abbrev Reduces : List Frame → Type 0
   Reduces fs = (e : Bool) (v : Value) (o : Operand) → reduced l fs e v ≡ Some o → Read all l fs e v t → Reduced all l o t
 
-  by_value : (f : Frame) (fs : List Frame) → Reduces fs → (e : Bool) (v : Value) (o : Operand) (a : Option Value) → applied f v ≡ a → completes l f ≡ true
+  by_value : (f : Frame) (fs : List Frame) → Reduces fs → (e : Bool) (v : Value) (o : Operand) (a : Option Value) → applied f v ≡ a
+      → completes l f ≡ true
       → option_and_then (reduced l fs (restored f e)) a ≡ Some o → Read all l (f ∷ fs) e v t → Reduced all l o t
   by_value f fs go e v o None g c h r = cc
   by_value f fs go e v o (Some w) g c h r = go (restored f e) w o h (popped all l f fs e v w t c g r)
@@ -166,13 +178,16 @@ abbrev pub IsAt : List TokenKind → Phase → List TokenKind → Type 0
 IsAt all (wants fs e) t = Open all fs e t
 IsAt all (has fs e v) t = Read all 12 fs e v t
 
-fresh : {all : List TokenKind} {fs : List Frame} {e : Bool} {s t : List TokenKind} {x : Tree} {v : Value} → Open all fs e s → Reads 13 s x t → value e x ≡ Some v → Read all 12 fs e v t
+fresh : {all : List TokenKind} {fs : List Frame} {e : Bool} {s t : List TokenKind} {x : Tree} {v : Value} → Open all fs e s
+    → Reads 13 s x t → value e x ≡ Some v → Read all 12 fs e v t
 fresh {all} {fs} {e} {s} {t} {x} {v} o r h = record { start = s; level = 13; tree = x; opened = o; reads = r; is = h; taken = (let b = signs fs all e s o in omega arith); high = omega arith }
 
-same_phase : (all : List TokenKind) (ph next : Phase) (t : List TokenKind) → ◌≡◌ {A = Option Phase} (Some ph) (Some next) → IsAt all ph t → IsAt all next t
+same_phase : (all : List TokenKind) (ph next : Phase) (t : List TokenKind) → ◌≡◌ {A = Option Phase} (Some ph) (Some next) → IsAt all ph t
+    → IsAt all next t
 same_phase all ph next t h i = let same : ph ≡ next = cc in subst (λ (q : Phase). IsAt all q t) same i
 
-at_prefix : (all : List TokenKind) (fs : List Frame) (e : Bool) (p : Punct) (ts : List TokenKind) (next : Phase) → Open all fs e (token.Punct p ∷ ts) → on_prefix fs e p ≡ Some next → IsAt all next ts
+at_prefix : (all : List TokenKind) (fs : List Frame) (e : Bool) (p : Punct) (ts : List TokenKind) (next : Phase)
+    → Open all fs e (token.Punct p ∷ ts) → on_prefix fs e p ≡ Some next → IsAt all next ts
 at_prefix all fs e punct.LeftParen ts next o h = same_phase all (wants (Bracket e ∷ fs) e) next ts h (in_bracket o)
 at_prefix all fs e p ts next o h = by (is_prefix p) refl h
   where
@@ -180,16 +195,18 @@ at_prefix all fs e p ts next o h = by (is_prefix p) refl h
     by true q g = same_phase all (wants (Sign p ∷ fs) e) next ts g (in_sign o q)
     by false q g = cc
 
-at_operand : (all : List TokenKind) (fs : List Frame) (e : Bool) (t : TokenKind) (ts : List TokenKind) (next : Phase) → Open all fs e (t ∷ ts) → on_operand fs e t ≡ Some next → IsAt all next ts
-at_operand all fs e (token.Number n k) ts next o h = same_phase all (has fs e (literal n k.unsigned)) next ts h (fresh o number refl)
-at_operand all fs e (token.CharConst byte) ts next o h = same_phase all (has fs e (character byte)) next ts h (fresh o constant refl)
+at_operand : (all : List TokenKind) (fs : List Frame) (e : Bool) (t : TokenKind) (ts : List TokenKind) (next : Phase)
+    → Open all fs e (t ∷ ts) → on_operand fs e t ≡ Some next → IsAt all next ts
+at_operand all fs e (token.Number n k) ts next o h = same_phase all (has fs e (literal_value n k.unsigned)) next ts h (fresh o number refl)
+at_operand all fs e (token.CharConst byte) ts next o h = same_phase all (has fs e (character_value byte)) next ts h (fresh o constant refl)
 at_operand all fs e (token.Name n) ts next o h = same_phase all (has fs e (truth false)) next ts h (fresh o name refl)
 at_operand all fs e (token.Punct p) ts next o h = at_prefix all fs e p ts next o h
 at_operand all fs e (token.Str s) ts next o h = cc
 at_operand all fs e (token.HeaderName s) ts next o h = cc
 at_operand all fs e (token.Header s) ts next o h = cc
 
-raised : {all : List TokenKind} {l k : ℕ} {fs : List Frame} {e : Bool} {v : Value} {t : List TokenKind} → l ≤ k → Read all k fs e v t → Read all l fs e v t
+raised : {all : List TokenKind} {l k : ℕ} {fs : List Frame} {e : Bool} {v : Value} {t : List TokenKind} → l ≤ k → Read all k fs e v t
+    → Read all l fs e v t
 raised le r = record { start = r.start; level = r.level; tree = r.tree; opened = r.opened; reads = r.reads; is = r.is; taken = r.taken; high = (let h = r.high in omega arith) }
 
 -- a stack whose top waits at a level takes operands of that level
@@ -200,7 +217,7 @@ need_at : (l : ℕ) (fs : List Frame) → 2 ≤ l → waits l fs ≡ true → ne
 need_at l [] le w = omega arith
 need_at l (Bracket x ∷ fs) le w = omega arith
 need_at l (Sign p ∷ fs) le w = waits_not l 11 w
-need_at l (Left p k a x ∷ fs) le w = waits_not l k w
+need_at l (Left p a x ∷ fs) le w = waits_not l (own_level p) w
 need_at l (Asks c x ∷ fs) le w = omega arith
 need_at l (Chooses c a x ∷ fs) le w = omega arith
 need_at l (Follows ∷ fs) le w = omega arith
@@ -209,7 +226,11 @@ two : (all : List TokenKind) (fs : List Frame) (e : Bool) (s : List TokenKind) �
 two all [] e s o w = omega arith
 two all (Bracket x ∷ fs) e s o w = omega arith
 two all (Sign p ∷ fs) e s o w = cc
-two all (Left p k a x ∷ fs) e s (in_left {p = p'} {l = l'} o q r h n) w = let b = level_bounds p' l' q in let c = waits_not 2 l' w in absurd (omega arith)
+two all (Left p a x ∷ fs) e s (in_left {p = p'} {l = l'} o q r h n) w =
+    let b = level_bounds p' l' q in
+    let same = own_is p' l' q in
+    let c = waits_not 2 (own_level p') w in
+    absurd (omega arith)
 two all (Asks c x ∷ fs) e s o w = omega arith
 two all (Chooses c a x ∷ fs) e s o w = omega arith
 two all (Follows ∷ fs) e s o w = omega arith
@@ -218,49 +239,54 @@ held : (fs : List Frame) → holds_comma fs ≡ true → need fs ≤ 0
 held [] h = cc
 held (Bracket x ∷ fs) h = omega arith
 held (Sign p ∷ fs) h = cc
-held (Left p k a x ∷ fs) h = cc
+held (Left p a x ∷ fs) h = cc
 held (Asks c x ∷ fs) h = omega arith
 held (Chooses c a x ∷ fs) h = cc
 held (Follows ∷ fs) h = cc
 
 module _ (all ts : List TokenKind) (next : Phase) where
-  at_colon : (fs : List Frame) (e : Bool) (v : Value) (s : List TokenKind) (k : ℕ) (x : Tree) → Open all fs e s → Reads k s x (token.Punct punct.Colon ∷ ts) → value e x ≡ Some v
+  at_colon : (fs : List Frame) (e : Bool) (v : Value) (s : List TokenKind) (k : ℕ) (x : Tree) → Open all fs e s
+      → Reads k s x (token.Punct punct.Colon ∷ ts) → value e x ≡ Some v
       → on_colon fs v ≡ Some next → IsAt all next ts
   at_colon [] e v s k x o r h g = cc
   at_colon (Bracket d ∷ fs) e v s k x o r h g = cc
   at_colon (Sign p ∷ fs) e v s k x o r h g = cc
-  at_colon (Left p m a d ∷ fs) e v s k x o r h g = cc
+  at_colon (Left p a d ∷ fs) e v s k x o r h g = cc
   at_colon (Asks c d ∷ fs) e v s k x (in_question o q f n) r h g =
       same_phase all (wants (Chooses c v d ∷ fs) (d && not (is_true c))) next ts g (in_colon o q f (looser (omega arith) r) h n)
   at_colon (Chooses c a d ∷ fs) e v s k x o r h g = cc
   at_colon (Follows ∷ fs) e v s k x o r h g = cc
 
-  at_close : (fs : List Frame) (e : Bool) (v : Value) (s : List TokenKind) (k : ℕ) (x : Tree) → Open all fs e s → Reads k s x (token.Punct punct.RightParen ∷ ts) → value e x ≡ Some v
+  at_close : (fs : List Frame) (e : Bool) (v : Value) (s : List TokenKind) (k : ℕ) (x : Tree) → Open all fs e s
+      → Reads k s x (token.Punct punct.RightParen ∷ ts) → value e x ≡ Some v
       → on_close fs v ≡ Some next → IsAt all next ts
   at_close [] e v s k x o r h g = cc
   at_close (Bracket d ∷ fs) e v s k x (in_bracket o) r h g = same_phase all (has fs d v) next ts g (fresh o (brackets (looser (omega arith) r)) h)
   at_close (Sign p ∷ fs) e v s k x o r h g = cc
-  at_close (Left p m a d ∷ fs) e v s k x o r h g = cc
+  at_close (Left p a d ∷ fs) e v s k x o r h g = cc
   at_close (Asks c d ∷ fs) e v s k x o r h g = cc
   at_close (Chooses c a d ∷ fs) e v s k x o r h g = cc
   at_close (Follows ∷ fs) e v s k x o r h g = cc
 
-  at_comma : (fs : List Frame) (e : Bool) (v : Value) → Read all 0 fs e v (token.Punct punct.Comma ∷ ts) → (if holds_comma fs && not e then Some (wants (Follows ∷ fs) false) else None) ≡ Some next → IsAt all next ts
+  at_comma : (fs : List Frame) (e : Bool) (v : Value) → Read all 0 fs e v (token.Punct punct.Comma ∷ ts)
+      → (if holds_comma fs && not e then Some (wants (Follows ∷ fs) false) else None) ≡ Some next → IsAt all next ts
   at_comma fs e v r h = by (holds_comma fs) e refl h r
     where
-      by : (b d : Bool) → holds_comma fs ≡ b → (if b && not d then Some (wants (Follows ∷ fs) false) else None) ≡ Some next → Read all 0 fs d v (token.Punct punct.Comma ∷ ts) → IsAt all next ts
+      by : (b d : Bool) → holds_comma fs ≡ b → (if b && not d then Some (wants (Follows ∷ fs) false) else None) ≡ Some next
+          → Read all 0 fs d v (token.Punct punct.Comma ∷ ts) → IsAt all next ts
       by true false q g r = same_phase all (wants (Follows ∷ fs) false) next ts g (in_comma r.opened (looser (omega arith) r.reads) r.is (held fs q))
       by true true q g r = cc
       by false d q g r = cc
 
-  at_binary : (p : Punct) (o : Operand) → Reduced all (punct_pull p) o (token.Punct p ∷ ts) → (m : Option ℕ) → level_of p ≡ m → on_binary o p m ≡ Some next → IsAt all next ts
+  at_binary : (p : Punct) (o : Operand) → Reduced all (punct_pull p) o (token.Punct p ∷ ts) → (m : Option ℕ) → level_of p ≡ m
+      → on_binary o p m ≡ Some next → IsAt all next ts
   at_binary p o r None q h = cc
   at_binary p o r (Some l) q h =
       let b = level_bounds p l q in
       let e = pull_is p l q in
       let w : waits l o.stack ≡ true = rw e at r.waiting in
       let high : l ≤ r.read.level = let g = r.read.high in omega arith in
-      same_phase all (wants (Left p l o.value o.evaluated ∷ o.stack) (evaluates_right o.evaluated p o.value)) next ts h
+      same_phase all (wants (Left p o.value o.evaluated ∷ o.stack) (evaluates_right o.evaluated p o.value)) next ts h
       (in_left r.read.opened q (looser high r.read.reads) r.read.is (need_at l o.stack b.0 w))
 
   at_punct : (p : Punct) (o : Operand) → Reduced all (punct_pull p) o (token.Punct p ∷ ts) → on_punct p o ≡ Some next → IsAt all next ts
@@ -300,7 +326,8 @@ pull_low (token.Str n) = omega arith
 pull_low (token.HeaderName n) = omega arith
 pull_low (token.Header n) = omega arith
 
-at_step : (all : List TokenKind) (ph : Phase) (t : TokenKind) (ts : List TokenKind) (next : Phase) → IsAt all ph (t ∷ ts) → step ph t ≡ Some next → IsAt all next ts
+at_step : (all : List TokenKind) (ph : Phase) (t : TokenKind) (ts : List TokenKind) (next : Phase) → IsAt all ph (t ∷ ts)
+    → step ph t ≡ Some next → IsAt all next ts
 at_step all (wants fs e) t ts next i h = at_operand all fs e t ts next i h
 at_step all (has fs e v) t ts next i h = by (reduced (pull t) fs e v) refl h
   where
@@ -313,10 +340,12 @@ pub record Found (all : List TokenKind) (v : Value) : Type 0 where
   pub reads : Reads conditional all tree []
   pub is : value true tree ≡ Some v
 
-at_start_is : (all : List TokenKind) (e : Bool) (v : Value) (s : List TokenKind) (k : ℕ) (x : Tree) → Open all [] e s → Reads k s x [] → value e x ≡ Some v → 1 ≤ k → Found all v
+at_start_is : (all : List TokenKind) (e : Bool) (v : Value) (s : List TokenKind) (k : ℕ) (x : Tree) → Open all [] e s → Reads k s x []
+    → value e x ≡ Some v → 1 ≤ k → Found all v
 at_start_is all e v s k x at_start r h n = record { tree = x; reads = looser n r; is = h }
 
-alone_is : (all : List TokenKind) (v : Value) (fs : List Frame) (e : Bool) (u : Value) → Read all 0 fs e u [] → whole fs u ≡ Some v → Found all v
+alone_is : (all : List TokenKind) (v : Value) (fs : List Frame) (e : Bool) (u : Value) → Read all 0 fs e u [] → whole fs u ≡ Some v
+    → Found all v
 alone_is all v [] e u r g =
     let same : u ≡ v = cc in
     at_start_is all e v r.start r.level r.tree r.opened r.reads (r.is ∙ ap (λ (x : Value). Some x) same) r.taken
@@ -334,7 +363,8 @@ at_run : (all ts : List TokenKind) (ph : Phase) (v : Value) → IsAt all ph ts �
 at_run all [] ph v i h = at_finish all ph v i h
 at_run all (t ∷ ts) ph v i h = by (step ph t) refl h (at_run all ts)
   where
-    by : (m : Option Phase) → step ph t ≡ m → option_and_then (λ next. run next ts) m ≡ Some v → ((next : Phase) (v : Value) → IsAt all next ts → run next ts ≡ Some v → Found all v) → Found all v
+    by : (m : Option Phase) → step ph t ≡ m → option_and_then (λ next. run next ts) m ≡ Some v
+        → ((next : Phase) (v : Value) → IsAt all next ts → run next ts ≡ Some v → Found all v) → Found all v
     by None q g go = cc
     by (Some next) q g go = go next v (at_step all ph t ts next i q) g
 

@@ -9,10 +9,12 @@ use Rattle.macro_conditions.specs.Values.{is_true}
 use Rattle.macro_conditions.specs.Machine.{Phase, wants, step, run, finish, decision}
 use Rattle.macro_conditions.specs.Conditions.{now}
 
-pub stops : (line : List (Bor TokenKind)) (i : ℕ) (k : Bor TokenKind) (ph : Phase) → i < length line → k ≡ get_or line i k → step ph k.now ≡ None
+pub stops : (line : List (Bor TokenKind)) (i : ℕ) (k : Bor TokenKind) (ph : Phase) → i < length line → k ≡ get_or line i k
+    → step ph k.now ≡ None
     → run ph (now (drop i line)) ≡ run (wants [] true) (now line) → None ≡ decision (now line)
 stops line i k ph lt e s r =
-    let d : now (drop i line) ≡ k.now ∷ now (drop (suc i) line) = ap now (drop-cons line i k lt) ∙ ap (λ (x : Bor TokenKind). x.now ∷ now (drop (suc i) line)) (sym e) in
+    let d : now (drop i line) ≡ k.now ∷ now (drop (suc i) line) = ap now (drop-cons line i k lt)
+    ∙ ap (λ (x : Bor TokenKind). x.now ∷ now (drop (suc i) line)) (sym e) in
     let h : run ph (now (drop i line)) ≡ None = ap (run ph) d ∙ ap (option_and_then (λ next. run next (now (drop (suc i) line)))) s in
     ap (option_map is_true) (sym h ∙ r)
 

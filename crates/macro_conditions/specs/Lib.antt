@@ -2,4 +2,5 @@ pub mod Values
 pub mod Trees
 pub mod Conditions
 pub mod Machine
+pub mod Numbers
 pub mod Reading

@@ -1,5 +1,5 @@
--- The integers of a condition (C11 6.10.1p4): 64-bit numbers, signed or unsigned. That sums and products of signed ones wrap is this
--- project's own.
+-- The integers of a condition (C11 6.10.1p4): 64-bit numbers, signed or unsigned, in the type `Value` of the code. That
+-- sums and products of signed ones wrap is this project's own.
 use Rattle.std.specs.Prelude.{ℕ, ◌+◌, ◌-◌, ◌*◌, ◌/◌, ◌%◌, ◌^◌, ◌==◌, nat_lt, nat_le, bit_and, bit_or, bit_xor, Bool, false, not, ◌&&◌, ◌||◌, if◌then◌else◌, Option, Some, None}
 use Rattle.c_tokens.specs.declared.Punct.{Punct}
 use Rattle.macro_conditions.specs.declared.values.Value.{Value}
@@ -12,14 +12,14 @@ is_true v = not (v.bits == 0)
 abbrev pub truth : Bool → Value
 truth b = record { bits = (if b then 1 else 0); unsigned = false }
 
--- A literal with the suffix u is unsigned (C11 6.4.4.1), and so is one that no signed number holds; that a decimal one is so too is this
--- project's own.
-abbrev pub literal : ℕ → Bool → Value
-literal n unsigned = record { bits = n; unsigned = unsigned || nat_le (2 ^ 63) n }
+-- A literal with the suffix u is unsigned (C11 6.4.4.1), and so is one that no signed number holds; that a decimal one is
+-- so too is this project's own.
+abbrev pub literal_value : ℕ → Bool → Value
+literal_value n unsigned = record { bits = n; unsigned = unsigned || nat_le (2 ^ 63) n }
 
 -- a character constant has the value of a signed char (C11 6.4.4.4p10; the sign is this project's own)
-abbrev pub character : ℕ → Value
-character byte = record { bits = (if nat_lt byte 128 then byte else 2 ^ 64 - 256 + byte); unsigned = false }
+abbrev pub character_value : ℕ → Value
+character_value byte = record { bits = (if nat_lt byte 128 then byte else 2 ^ 64 - 256 + byte); unsigned = false }
 
 abbrev pub is_negative : ℕ → Bool
 is_negative bits = nat_le (2 ^ 63) bits

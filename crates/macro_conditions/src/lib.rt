@@ -3,6 +3,7 @@
 
 mod laws;
 mod machine;
+mod precedence;
 mod values;
 
 pub use laws::one_decision;

@@ -2,24 +2,26 @@
 
 ghost use Rattle.std.specs.Prelude.{◌≡◌, IfOk, Option, Bool, option_map};
 ghost use Rattle.macro_conditions.specs.Conditions.{Decides, now};
-ghost use Rattle.macro_conditions.specs.Trees.{level_of};
+ghost use Rattle.macro_conditions.specs.Numbers.{number_of};
 ghost use Rattle.macro_conditions.specs.Values.{is_true};
 ghost use Rattle.macro_conditions.specs.Machine.{decision, completes, applied, restored, reduced, on_prefix, on_operand, pull, on_colon, on_close, holds_comma, on_punct, step, finish};
 ghost use Rattle.macro_conditions.specs.Reading.{frames, phase_view, StepsAs, ReducesAs, top_of};
 
+use crate::precedence::{Level, level_of, own_level};
 use crate::values::{
-    Value, character, chosen, combined, evaluates_right, is_true, literal, prefixed, truth,
+    Value, character_value, chosen, combined, evaluates_right, is_true, literal_value, prefixed,
+    truth,
 };
 use c_tokens::{Punct, TokenKind};
 use std::alloc::{AllocError, Global};
 
 /// What waits for an operand. A flag says whether the operands were evaluated before it.
-#[derive(Clone, Copy, Debug)]
+#[derive(Clone, Copy)]
 pub enum Frame {
     Bracket(bool),
     Sign(Punct),
-    /// A binary operator with its level and its left operand.
-    Left(Punct, u32, Value, bool),
+    /// A binary operator with its left operand.
+    Left(Punct, Value, bool),
     /// `?` behind its condition.
     Question(Value, bool),
     /// `:` behind a condition and the operand for where it holds.
@@ -28,41 +30,22 @@ pub enum Frame {
 }
 
 /// An operand is wanted, or one was read. The flag says whether it is evaluated.
-#[derive(Clone, Copy, Debug)]
+#[derive(Clone, Copy)]
 pub enum Phase {
     Wants(bool),
     Has(bool, Value),
 }
 
-/// The level of a binary operator (C11 6.5.5 to 6.5.14), from the loosest on.
-fn level_of(operator: Punct) -> Option<u32>
-    ensures { result ≡ level_of operator }
-{
-    match operator {
-        Punct::Star | Punct::Slash | Punct::Percent => Some(11),
-        Punct::Plus | Punct::Minus => Some(10),
-        Punct::ShiftLeft | Punct::ShiftRight => Some(9),
-        Punct::Less | Punct::Greater | Punct::LessEqual | Punct::GreaterEqual => Some(8),
-        Punct::EqualEqual | Punct::NotEqual => Some(7),
-        Punct::Ampersand => Some(6),
-        Punct::Caret => Some(5),
-        Punct::Bar => Some(4),
-        Punct::AndAnd => Some(3),
-        Punct::OrOr => Some(2),
-        _ => None,
-    }
-}
-
 /// An operator of this level or a looser one completes the frame.
-fn completes(level: u32, frame: Frame) -> bool
-    ensures { result ≡ completes level frame }
+fn completes(level: Level, frame: Frame) -> bool
+    ensures { result ≡ completes (number_of level) frame }
 {
     match frame {
         Frame::Bracket(_) | Frame::Question(..) => false,
-        Frame::Sign(_) => level <= 11,
-        Frame::Left(_, own, ..) => level <= own,
-        Frame::Colon(..) => level <= 1,
-        Frame::Comma => level == 0,
+        Frame::Sign(_) => level.is_within(Level::Multiplicative),
+        Frame::Left(operator, ..) => level.is_within(own_level(operator)),
+        Frame::Colon(..) => level.is_within(Level::Conditional),
+        Frame::Comma => level.is_within(Level::Expression),
     }
 }
 
@@ -72,7 +55,7 @@ fn applied(frame: Frame, value: Value) -> Option<Value>
 {
     match frame {
         Frame::Sign(operator) => Some(prefixed(operator, value)),
-        Frame::Left(operator, _, left, evaluated) => combined(evaluated, operator, left, value),
+        Frame::Left(operator, left, evaluated) => combined(evaluated, operator, left, value),
         Frame::Colon(condition, left, _) => Some(chosen(condition, left, value)),
         Frame::Comma => Some(value),
         Frame::Bracket(_) | Frame::Question(..) => None,
@@ -84,7 +67,7 @@ fn restored(frame: Frame, now: bool) -> bool
     ensures { result ≡ restored frame now }
 {
     match frame {
-        Frame::Left(_, _, _, evaluated) | Frame::Colon(_, _, evaluated) => evaluated,
+        Frame::Left(_, _, evaluated) | Frame::Colon(_, _, evaluated) => evaluated,
         _ => now,
     }
 }
@@ -101,11 +84,11 @@ fn top(stack: &[Frame]) -> Option<Frame>
 /// Takes off the frames that an operator of the level completes.
 fn reduce(
     stack: &mut Vec<Frame>,
-    level: u32,
+    level: Level,
     mut evaluated: bool,
     mut value: Value,
 ) -> Option<(bool, Value)>
-    ensures { ReducesAs result (frames stack.new.items) (reduced level (frames stack.old.items) evaluated value) }
+    ensures { ReducesAs result (frames stack.new.items) (reduced (number_of level) (frames stack.old.items) evaluated value) }
 {
     while let Some(frame) = top(stack) {
         if !completes(level, frame) {
@@ -149,9 +132,9 @@ fn on_operand(
     match kind {
         TokenKind::Number { value, kind } => Ok(Some(Phase::Has(
             evaluated,
-            literal(*value, kind.unsigned),
+            literal_value(*value, kind.unsigned),
         ))),
-        TokenKind::CharConst(byte) => Ok(Some(Phase::Has(evaluated, character(*byte)))),
+        TokenKind::CharConst(byte) => Ok(Some(Phase::Has(evaluated, character_value(*byte)))),
         TokenKind::Name(_) => Ok(Some(Phase::Has(evaluated, truth(false)))),
         TokenKind::Punct(punct) => on_prefix(stack, evaluated, *punct),
         _ => Ok(None),
@@ -159,16 +142,13 @@ fn on_operand(
 }
 
 /// The level of the frames that a token completes.
-fn pull(kind: &TokenKind) -> u32
-    ensures { result ≡ pull kind.now }
+fn pull(kind: &TokenKind) -> Level
+    ensures { number_of result ≡ pull kind.now }
 {
     match kind {
-        TokenKind::Punct(Punct::Question) => 2,
-        TokenKind::Punct(punct) => match level_of(*punct) {
-            Some(level) => level,
-            None => 0,
-        },
-        _ => 0,
+        TokenKind::Punct(Punct::Question) => Level::LogicalOr,
+        TokenKind::Punct(punct) => own_level(*punct),
+        _ => Level::Expression,
     }
 }
 
@@ -227,10 +207,10 @@ fn on_punct(
             Ok(Some(Phase::Wants(false)))
         }
         _ => {
-            let Some(level) = level_of(punct) else {
+            if level_of(punct).is_none() {
                 return Ok(None);
-            };
-            stack.push(Frame::Left(punct, level, value, evaluated))?;
+            }
+            stack.push(Frame::Left(punct, value, evaluated))?;
             Ok(Some(Phase::Wants(evaluates_right(evaluated, punct, value))))
         }
     }
@@ -257,7 +237,7 @@ fn finish(mut stack: Vec<Frame>, phase: Phase) -> Option<Value>
     match phase {
         Phase::Wants(_) => None,
         Phase::Has(evaluated, value) => {
-            let (_, value) = reduce(&mut stack, 0, evaluated, value)?;
+            let (_, value) = reduce(&mut stack, Level::Expression, evaluated, value)?;
             if stack.is_empty() { Some(value) } else { None }
         }
     }

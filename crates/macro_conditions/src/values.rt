@@ -1,12 +1,12 @@
 //! The integers of a condition: 64-bit numbers, signed or unsigned.
 
 ghost use Rattle.std.specs.Prelude.{◌≡◌, ◌<◌, ◌^◌, ◌≢◌, true, false, if◌then◌else◌};
-ghost use Rattle.macro_conditions.specs.Values.{is_true, truth, literal, character, is_negative, negated, magnitude, have_same_sign, is_less, is_bad_division, signed_quotient, signed_remainder, quotient, remainder, is_bad_shift, shifted_left, shifted_right, unless_bad, combined, evaluates_right, prefixed, chosen, joint};
+ghost use Rattle.macro_conditions.specs.Values.{is_true, truth, literal_value, character_value, is_negative, negated, magnitude, have_same_sign, is_less, is_bad_division, signed_quotient, signed_remainder, quotient, remainder, is_bad_shift, shifted_left, shifted_right, unless_bad, combined, evaluates_right, prefixed, chosen, joint};
 
 use c_tokens::Punct;
 
 /// The 64 bits of a number, in two's complement where it is signed.
-#[derive(Clone, Copy, Debug)]
+#[derive(Clone, Copy)]
 pub struct Value {
     pub bits: u64,
     pub unsigned: bool,
@@ -32,8 +32,8 @@ pub fn truth(holds: bool) -> Value
 }
 
 /// A literal is unsigned where it says so, and where no signed number holds it.
-pub fn literal(bits: u64, unsigned: bool) -> Value
-    ensures { result ≡ literal bits unsigned }
+pub fn literal_value(bits: u64, unsigned: bool) -> Value
+    ensures { result ≡ literal_value bits unsigned }
 {
     Value {
         bits,
@@ -42,8 +42,8 @@ pub fn literal(bits: u64, unsigned: bool) -> Value
 }
 
 /// A character constant has the value of a signed char.
-pub fn character(byte: u8) -> Value
-    ensures { result ≡ character byte }
+pub fn character_value(byte: u8) -> Value
+    ensures { result ≡ character_value byte }
 {
     let bits = if byte < 128 {
         byte as u64

@@ -1,13 +1,13 @@
 -- The parameters of a definition, one after the other.
-use Rattle.std.proofs.Common.{◌≡◌, ◌≤◌, ◌<◌, Bool, true, false, not, ◌&&◌, ◌||◌, List, [], ◌∷◌, ◌++◌, length, get_or, drop, Option, Some, None, option_map, refl, sym, ap, ◌∙◌, append_assoc, arith}
+use Rattle.std.proofs.Common.{◌≡◌, ◌≤◌, ◌<◌, Bool, true, false, not, ◌&&◌, ◌||◌, if◌then◌else◌, List, [], ◌∷◌, ◌++◌, length, get_or, drop, Option, Some, None, option_map, refl, sym, ap, ◌∙◌, append_assoc, arith}
 use Rattle.std.specs.Prelude.{option_and_then}
 use Rattle.std.specs.List.{list_any}
+use Rattle.std.proofs.lemmas.Cmp.{nat_list_eq_equiv}
 use Rattle.std.proofs.lemmas.List.Folds.{list_any-append}
 use Rattle.c_tokens.specs.declared.Token.{Token}
-use Rattle.macro_meaning.specs.declared.Separator.{Separator}
-use Rattle.macro_meaning.specs.declared.Separator.TheVariants.{Last, Another, Neither}
-use Rattle.macro_meaning.specs.Macros.{Name, same_name, has}
-use Rattle.macro_meaning.specs.Definitions.{Parameters, with_parameter, by_separator, separator, some_parameters, are_distinct, distinct, name_of}
+use Rattle.c_tokens.specs.declared.TokenKind.{TokenKind}
+use Rattle.macro_meaning.specs.Macros.{Name, same_name, has, closes, is_comma}
+use Rattle.macro_meaning.specs.Definitions.{Parameters, with_parameter, behind_name, some_parameters, are_distinct, distinct, name_of}
 
 -- ---- different names
 
@@ -15,9 +15,13 @@ use Rattle.macro_meaning.specs.Definitions.{Parameters, with_parameter, by_separ
 abbrev pub repeats : Name → List Name → Bool
 repeats name = list_any (same_name name)
 
+-- names are compared either way round
+turned : (a b : Name) → same_name b a ≡ same_name a b
+turned a b = nat_list_eq_equiv.symm b a
+
 has_one : (front rest : List Name) (name other : Name) → same_name name other ≡ true → has (front ++ name ∷ rest) other ≡ true
 has_one front rest name other e =
-    list_any-append (λ n. same_name n other) front (name ∷ rest) ∙ rw e (or_true (has front other))
+    list_any-append (same_name other) front (name ∷ rest) ∙ rw (turned name other ∙ e) (or_true (has front other))
   where
     or_true : (b : Bool) → (b || true) ≡ true
     or_true true = refl
@@ -32,7 +36,8 @@ not_distinct (m ∷ ms) rest name e = by (same_name name m) refl e (not_distinct
     and_false true = refl
     and_false false = refl
 
-    by : (b : Bool) → same_name name m ≡ b → (b || repeats name ms) ≡ true → (repeats name ms ≡ true → are_distinct (ms ++ name ∷ rest) ≡ false)
+    by : (b : Bool) → same_name name m ≡ b → (b || repeats name ms) ≡ true
+        → (repeats name ms ≡ true → are_distinct (ms ++ name ∷ rest) ≡ false)
         → (not (has (ms ++ name ∷ rest) m) && are_distinct (ms ++ name ∷ rest)) ≡ false
     by true f g more = rw (has_one ms rest name m f) refl
     by false f g more = rw (more g) (and_false (not (has (ms ++ name ∷ rest) m)))
@@ -41,7 +46,8 @@ parts : (a b : Bool) → (a && b) ≡ true → (a ≡ true) × (b ≡ true)
 parts true b e = (refl, e)
 parts false b e = cc
 
-pub distinct_push : (front : List Name) (name : Name) → are_distinct front ≡ true → repeats name front ≡ false → are_distinct (front ++ name ∷ []) ≡ true
+pub distinct_push : (front : List Name) (name : Name) → are_distinct front ≡ true → repeats name front ≡ false
+    → are_distinct (front ++ name ∷ []) ≡ true
 distinct_push [] name d e = refl
 distinct_push (m ∷ ms) name d e =
     let p = parts (not (has ms m)) (are_distinct ms) d in
@@ -51,12 +57,13 @@ distinct_push (m ∷ ms) name d e =
     kept true q = q
     kept false q = refl
 
-    by : (b : Bool) → same_name name m ≡ b → (b || repeats name ms) ≡ false → (repeats name ms ≡ false → are_distinct (ms ++ name ∷ []) ≡ true) → not (has ms m) ≡ true
+    by : (b : Bool) → same_name name m ≡ b → (b || repeats name ms) ≡ false
+        → (repeats name ms ≡ false → are_distinct (ms ++ name ∷ []) ≡ true) → not (has ms m) ≡ true
         → (not (has (ms ++ name ∷ []) m) && are_distinct (ms ++ name ∷ [])) ≡ true
     by true f g more q = cc
     by false f g more q =
-        let h : has (ms ++ name ∷ []) m ≡ (has ms m || (same_name name m || false)) = list_any-append (λ n. same_name n m) ms (name ∷ []) in
-        rw (h, f, more g) (kept (has ms m) q)
+        let h : has (ms ++ name ∷ []) m ≡ (has ms m || (same_name m name || false)) = list_any-append (same_name m) ms (name ∷ []) in
+        rw (h, turned name m ∙ f, more g) (kept (has ms m) q)
 
 -- what it says that the name is new, or not
 pub known : (is_new r : Bool) → is_new ≡ not r → is_new ≡ false → r ≡ true
@@ -73,18 +80,21 @@ unknown is_new false e f = refl
 abbrev pub behind : List Name → Option Parameters → Option Parameters
 behind front = option_map (λ p. record { names = front ++ p.names; rest = p.rest })
 
-behind_more : (front : List Name) (name : Name) (o : Option Parameters) → behind front (with_parameter name o) ≡ behind (front ++ name ∷ []) o
+behind_more : (front : List Name) (name : Name) (o : Option Parameters)
+    → behind front (with_parameter name o) ≡ behind (front ++ name ∷ []) o
 behind_more front name None = refl
 behind_more front name (Some p) = rw append_assoc refl
 
 two : (ts : List Token) (x y : Token) → 2 ≤ length ts
-    → some_parameters ts ≡ option_and_then (λ name. by_separator name (drop 2 ts) (separator (get_or ts 1 y).kind) (some_parameters (drop 2 ts))) (name_of (get_or ts 0 x).kind)
+    → some_parameters ts ≡ option_and_then (λ name. behind_name name (get_or ts 1 y).kind (drop 2 ts) (some_parameters (drop 2 ts)))
+    (name_of (get_or ts 0 x).kind)
 unfolding some_parameters
 two [] x y le = absurd (omega arith)
 two (t ∷ []) x y le = absurd (omega arith)
 two (t ∷ u ∷ us) x y le = refl
 
-pub few : (front : List Name) (ts : List Token) (all : Option Parameters) → length ts < 2 → distinct (behind front (some_parameters ts)) ≡ all → None ≡ all
+pub few : (front : List Name) (ts : List Token) (all : Option Parameters) → length ts < 2
+    → distinct (behind front (some_parameters ts)) ≡ all → None ≡ all
 unfolding some_parameters
 few front [] all lt h = h
 few front (t ∷ []) all lt h = h
@@ -95,27 +105,37 @@ module _ (front : List Name) (name : Name) (e : repeats name front ≡ true) whe
   repeated_behind None = refl
   repeated_behind (Some p) = rw (not_distinct front p.names name e) refl
 
-  repeated_by : (s : Separator) (rest : List Token) (more : Option Parameters) → distinct (behind front (by_separator name rest s more)) ≡ None
-  repeated_by Last rest more = rw (not_distinct front [] name e) refl
-  repeated_by Another rest more = repeated_behind more
-  repeated_by Neither rest more = refl
+  repeated_by : (k : TokenKind) (rest : List Token) (more : Option Parameters)
+      → distinct (behind front (behind_name name k rest more)) ≡ None
+  repeated_by k rest more = by (closes k) (is_comma k)
+    where
+      by : (a b : Bool) → distinct
+          (behind front (if a then Some (record { names = name ∷ []; rest = rest }) else (if b then with_parameter name more else None))) ≡ None
+      by true b = rw (not_distinct front [] name e) refl
+      by false true = repeated_behind more
+      by false false = refl
 
-module _ (front : List Name) (ts : List Token) (all : Option Parameters) (x : Token) (le : 2 ≤ length ts) (h : distinct (behind front (some_parameters ts)) ≡ all) where
+module _ (front : List Name) (ts : List Token) (all : Option Parameters) (x : Token) (le : 2 ≤ length ts)
+    (h : distinct (behind front (some_parameters ts)) ≡ all) where
   pub no_name : None ≡ name_of (get_or ts 0 x).kind → None ≡ all
   no_name n = let g = rw (two ts x x le, ← n) at h in g
 
   pub repeated : (name : Name) → Some name ≡ name_of (get_or ts 0 x).kind → repeats name front ≡ true → None ≡ all
   repeated name n e =
       let g = rw (two ts x x le, ← n) at h in
-      sym (repeated_by front name e (separator (get_or ts 1 x).kind) (drop 2 ts) (some_parameters (drop 2 ts))) ∙ g
+      sym (repeated_by front name e (get_or ts 1 x).kind (drop 2 ts) (some_parameters (drop 2 ts))) ∙ g
 
-  pub last_one : (y : Token) (name : Name) → Some name ≡ name_of (get_or ts 0 x).kind → are_distinct (front ++ name ∷ []) ≡ true → Last ≡ separator (get_or ts 1 y).kind
+  pub last_one : (y : Token) (name : Name) → Some name ≡ name_of (get_or ts 0 x).kind → are_distinct (front ++ name ∷ []) ≡ true
+      → closes (get_or ts 1 y).kind ≡ true
       → Some (record { names = front ++ name ∷ []; rest = drop 2 ts }) ≡ all
-  last_one y name n d s = let g = rw (two ts x y le, ← n, ← s, d) at h in g
+  last_one y name n d s = let g = rw (two ts x y le, ← n, s, d) at h in g
 
-  pub another_one : (y : Token) (name : Name) → Some name ≡ name_of (get_or ts 0 x).kind → Another ≡ separator (get_or ts 1 y).kind
+  pub another_one : (y : Token) (name : Name) → Some name ≡ name_of (get_or ts 0 x).kind → closes (get_or ts 1 y).kind ≡ false
+      → is_comma (get_or ts 1 y).kind ≡ true
       → distinct (behind (front ++ name ∷ []) (some_parameters (drop 2 ts))) ≡ all
-  another_one y name n s = let g = rw (two ts x y le, ← n, ← s) at h in ap distinct (sym (behind_more front name (some_parameters (drop 2 ts)))) ∙ g
+  another_one y name n s c =
+      let g = rw (two ts x y le, ← n, s, c) at h in ap distinct (sym (behind_more front name (some_parameters (drop 2 ts)))) ∙ g
 
-  pub neither : (y : Token) (name : Name) → Some name ≡ name_of (get_or ts 0 x).kind → Neither ≡ separator (get_or ts 1 y).kind → None ≡ all
-  neither y name n s = let g = rw (two ts x y le, ← n, ← s) at h in g
+  pub neither : (y : Token) (name : Name) → Some name ≡ name_of (get_or ts 0 x).kind → closes (get_or ts 1 y).kind ≡ false
+      → is_comma (get_or ts 1 y).kind ≡ false → None ≡ all
+  neither y name n s c = let g = rw (two ts x y le, ← n, s, c) at h in g

@@ -1,9 +1,9 @@
 -- Definitions and their parameters as plain data.
-use Rattle.std.specs.Prelude.{List, map, Option, option_map}
+use Rattle.std.specs.Prelude.{List, option_map}
 use Rattle.std.specs.Borrow.{Bor}
 use Rattle.c_tokens.specs.declared.Token.{Token}
-use Rattle.macro_meaning.specs.Macros.{Name, Meaning}
-use Rattle.macro_meaning.specs.Definitions.{Definition, Parameters, piece}
+use Rattle.macro_meaning.specs.Macros.{Name}
+use Rattle.macro_meaning.specs.Definitions.{Definition, Parameters}
 use Rattle.macro_items.specs.Views.{names}
 use Rattle.macro_definitions.specs.declared.definitions.Definition.{Definition as Read}
 use Rattle.macro_definitions.specs.declared.definitions.Parameters.{Parameters as Names}
@@ -17,6 +17,3 @@ parameters_view p = record { names = names p.names.keys; rest = p.rest.now }
 -- the parameters of these names, and the tokens after them
 abbrev pub with_rest : List Name → Bor (List Token) → Parameters
 with_rest names rest = record { names = names; rest = rest.now }
-
-abbrev pub meaning_of : Option (List Name) → List Token → Meaning
-meaning_of parameters body = record { parameters = parameters; body = map (piece parameters) body }

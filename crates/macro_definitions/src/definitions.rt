@@ -3,15 +3,14 @@
 ghost use Rattle.std.specs.Prelude.{◌≡◌, IfOk, option_map, map, find, true, not, ◌++◌, ◌∷◌, []};
 ghost use Rattle.std.specs.List.{list_any, position};
 ghost use Rattle.macro_meaning.specs.Macros.{same_name};
-ghost use Rattle.macro_meaning.specs.Definitions.{macro_name, separator, some_parameters, parameters_of, distinct, opens_at_once, defined_as, definition, named_piece, piece, is_operator};
-ghost use Rattle.macro_items.specs.Views.{names, piece_view, piece_views, meaning_view};
-ghost use Rattle.macro_definitions.specs.Views.{definition_view, parameters_view, with_rest, meaning_of};
+ghost use Rattle.macro_meaning.specs.Definitions.{macro_name, some_parameters, parameters_of, distinct, opens_at_once, defined_as, definition, named_part, body_part, meaning, is_operator};
+ghost use Rattle.macro_items.specs.Views.{names, body_part_view, body_part_views, meaning_view};
+ghost use Rattle.macro_definitions.specs.Views.{definition_view, parameters_view, with_rest};
 
 use c_tokens::{Punct, Token, TokenKind};
 use indexmap::IndexSet;
-use macro_items::{Macro, Piece};
+use macro_items::{BodyPart, Macro, closes, is_comma, opens};
 use macro_lines::{after, is_defined_word, name_of};
-use macro_meaning::Separator;
 use std::alloc::{AllocError, Global};
 
 /// A macro's name, its parameters where it has a list of them, and the tokens of its replacement list.
@@ -45,16 +44,6 @@ fn macro_name(kind: &TokenKind) -> Option<&[u8]>
     }
 }
 
-fn separator(kind: &TokenKind) -> Separator
-    ensures { result ≡ separator kind.now }
-{
-    match kind {
-        TokenKind::Punct(Punct::RightParen) => Separator::Last,
-        TokenKind::Punct(Punct::Comma) => Separator::Another,
-        _ => Separator::Neither,
-    }
-}
-
 /// Adds a parameter, and tells whether its name is new.
 fn add_parameter<'a>(
     parameters: &mut IndexSet<&'a [u8]>,
@@ -83,12 +72,15 @@ fn read_parameters<'a>(
         if !add_parameter(parameters, name)? {
             return Ok(None);
         }
+        let separator = &tokens[1].kind;
         let rest = after(tokens, 2);
-        match separator(&tokens[1].kind) {
-            Separator::Last => return Ok(Some(rest)),
-            Separator::Another => tokens = rest,
-            Separator::Neither => return Ok(None),
+        if closes(separator) {
+            return Ok(Some(rest));
         }
+        if !is_comma(separator) {
+            return Ok(None);
+        }
+        tokens = rest;
     }
     Ok(None)
 }
@@ -111,22 +103,19 @@ fn parameters_of(alloc: Global, tokens: &[Token]) -> Result<Option<Parameters<'_
     if tokens.is_empty() {
         return Ok(None);
     }
-    match separator(&tokens[0].kind) {
-        Separator::Last => Ok(Some(Parameters {
+    if closes(&tokens[0].kind) {
+        return Ok(Some(Parameters {
             names: IndexSet::new(alloc),
             rest: after(tokens, 1),
-        })),
-        _ => some_parameters(alloc, tokens),
+        }));
     }
+    some_parameters(alloc, tokens)
 }
 
 fn opens_at_once(token: &Token) -> bool
     ensures { result ≡ opens_at_once token.now }
 {
-    match token.kind {
-        TokenKind::Punct(Punct::LeftParen) => !token.spaced,
-        _ => false,
-    }
+    opens(&token.kind) && !token.spaced
 }
 
 /// The macro has parameters where an opening bracket follows its name at once.
@@ -174,37 +163,41 @@ fn position_of(parameters: &IndexSet<&[u8]>, name: &[u8]) -> Option<usize>
     parameters.get_index_of(name)
 }
 
-fn named_piece<'a>(parameters: &IndexSet<&'a [u8]>, kind: &'a TokenKind, spaced: bool) -> Piece<'a>
-    ensures { piece_view result ≡ named_piece (names parameters.now.keys) kind.now spaced }
+fn named_part<'a>(
+    parameters: &IndexSet<&'a [u8]>,
+    kind: &'a TokenKind,
+    spaced: bool,
+) -> BodyPart<'a>
+    ensures { body_part_view result ≡ named_part (names parameters.now.keys) kind.now spaced }
 {
     match kind {
         TokenKind::Name(name) => match position_of(parameters, name.bytes()) {
-            Some(k) => Piece::Parameter(k),
-            None => Piece::Plain(kind, spaced),
+            Some(k) => BodyPart::Parameter(k),
+            None => BodyPart::Plain(kind, spaced),
         },
-        _ => Piece::Plain(kind, spaced),
+        _ => BodyPart::Plain(kind, spaced),
     }
 }
 
-fn piece<'a>(parameters: &Option<IndexSet<&'a [u8]>>, token: &'a Token) -> Piece<'a>
-    ensures { piece_view result ≡ piece (option_map (λ s. names s.keys) parameters.now) token.now }
+fn body_part<'a>(parameters: &Option<IndexSet<&'a [u8]>>, token: &'a Token) -> BodyPart<'a>
+    ensures { body_part_view result ≡ body_part (option_map (λ s. names s.keys) parameters.now) token.now }
 {
     match parameters {
-        None => Piece::Plain(&token.kind, token.spaced),
-        Some(list) => named_piece(list, &token.kind, token.spaced),
+        None => BodyPart::Plain(&token.kind, token.spaced),
+        Some(list) => named_part(list, &token.kind, token.spaced),
     }
 }
 
-fn pieces<'a>(
+fn body_parts<'a>(
     alloc: Global,
     parameters: &Option<IndexSet<&'a [u8]>>,
     tokens: &'a [Token],
-) -> Result<Vec<Piece<'a>>, AllocError>
-    ensures { IfOk result (λ v. piece_views v.items ≡ map (piece (option_map (λ s. names s.keys) parameters.now)) tokens.now) }
+) -> Result<Vec<BodyPart<'a>>, AllocError>
+    ensures { IfOk result (λ v. body_part_views v.items ≡ map (body_part (option_map (λ s. names s.keys) parameters.now)) tokens.now) }
 {
     let mut body = Vec::new(alloc);
     for token in tokens {
-        body.push(piece(parameters, token))?;
+        body.push(body_part(parameters, token))?;
     }
     Ok(body)
 }
@@ -215,9 +208,9 @@ pub fn meaning<'a>(
     parameters: Option<IndexSet<&'a [u8]>>,
     tokens: &'a [Token],
 ) -> Result<Macro<'a>, AllocError>
-    ensures { IfOk result (λ m. meaning_view m ≡ meaning_of (option_map (λ s. names s.keys) parameters.entry) tokens.now) }
+    ensures { IfOk result (λ m. meaning_view m ≡ meaning (option_map (λ s. names s.keys) parameters.entry) tokens.now) }
 {
-    let body = pieces(alloc, &parameters, tokens)?;
+    let body = body_parts(alloc, &parameters, tokens)?;
     Ok(Macro { parameters, body })
 }
 

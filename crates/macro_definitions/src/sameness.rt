@@ -3,20 +3,14 @@
 ghost use Rattle.std.specs.Prelude.{◌≡◌, ◌==◌};
 ghost use Rattle.std.specs.Cmp.Lexicographic.{pointwise};
 ghost use Rattle.macro_meaning.specs.Macros.{same_name};
-ghost use Rattle.macro_meaning.specs.Sameness.{punct_number, same_header, same_number, same_kind, same_piece, same_meaning};
-ghost use Rattle.macro_items.specs.Views.{names, piece_view, piece_views, meaning_view};
+ghost use Rattle.macro_meaning.specs.Sameness.{same_header, same_number, same_kind, same_part, same_meaning};
+ghost use Rattle.macro_items.specs.Views.{names, body_part_view, body_part_views, meaning_view};
 
-use c_tokens::{HeaderId, NumberKind, Punct, TokenKind};
+use c_tokens::{HeaderId, NumberKind, TokenKind};
 use indexmap::IndexSet;
-use macro_items::{Macro, Piece};
+use macro_items::{BodyPart, Macro};
 
-fn same_punct(a: Punct, b: Punct) -> bool
-    ensures { result ≡ (punct_number a == punct_number b) }
-{
-    a == b
-}
-
-/// The same header.
+/// Whether two headers are one.
 pub fn same_header(a: HeaderId, b: HeaderId) -> bool
     ensures { result ≡ same_header a b }
 {
@@ -50,7 +44,7 @@ fn same_kind(a: &TokenKind, b: &TokenKind) -> bool
             _ => false,
         },
         TokenKind::Punct(a) => match b {
-            TokenKind::Punct(b) => same_punct(*a, *b),
+            TokenKind::Punct(b) => a.is_spelled_as(*b),
             _ => false,
         },
         TokenKind::HeaderName(a) => match b {
@@ -64,29 +58,29 @@ fn same_kind(a: &TokenKind, b: &TokenKind) -> bool
     }
 }
 
-fn same_piece(a: Piece<'_>, b: Piece<'_>) -> bool
-    ensures { result ≡ same_piece (piece_view a.entry) (piece_view b.entry) }
+fn same_part(a: BodyPart<'_>, b: BodyPart<'_>) -> bool
+    ensures { result ≡ same_part (body_part_view a.entry) (body_part_view b.entry) }
 {
     match a {
-        Piece::Plain(a, _) => match b {
-            Piece::Plain(b, _) => same_kind(a, b),
-            Piece::Parameter(_) => false,
+        BodyPart::Plain(a, _) => match b {
+            BodyPart::Plain(b, _) => same_kind(a, b),
+            BodyPart::Parameter(_) => false,
         },
-        Piece::Parameter(k) => match b {
-            Piece::Plain(..) => false,
-            Piece::Parameter(l) => k == l,
+        BodyPart::Parameter(k) => match b {
+            BodyPart::Plain(..) => false,
+            BodyPart::Parameter(l) => k == l,
         },
     }
 }
 
-fn same_body(a: &[Piece<'_>], b: &[Piece<'_>]) -> bool
-    ensures { result ≡ pointwise same_piece (piece_views a.now) (piece_views b.now) }
+fn same_body(a: &[BodyPart<'_>], b: &[BodyPart<'_>]) -> bool
+    ensures { result ≡ pointwise same_part (body_part_views a.now) (body_part_views b.now) }
 {
     if a.len() != b.len() {
         return false;
     }
     for i in 0..a.len() {
-        if !same_piece(a[i], b[i]) {
+        if !same_part(a[i], b[i]) {
             return false;
         }
     }
@@ -99,7 +93,7 @@ fn same_names(a: &IndexSet<&[u8]>, b: &IndexSet<&[u8]>) -> bool
     a.as_slice() == b.as_slice()
 }
 
-/// The same parameters and the same replacement list, whatever is spaced.
+/// Whether two macros have the same parameters and the same replacement list, whatever is spaced.
 pub fn same_meaning(a: &Macro<'_>, b: &Macro<'_>) -> bool
     ensures { result ≡ same_meaning (meaning_view a.now) (meaning_view b.now) }
 {

@@ -2,20 +2,30 @@
 
 ghost use Rattle.std.specs.Prelude.{◌≡◌, OnOk, reverse, Some, None};
 ghost use Rattle.macro_meaning.specs.Macros.{with_macro};
-ghost use Rattle.macro_meaning.specs.Moves.{takes};
+ghost use Rattle.macro_meaning.specs.Moves.{is_taken, takes};
 ghost use Rattle.macro_items.specs.Views.{table, meaning_view};
 
 use c_tokens::HeaderId;
 use macro_items::{Macro, Macros};
-use macro_meaning::Group;
-use std::alloc::AllocError;
+use macro_lines::Builtins;
+use macro_meaning::{Group, GroupState};
+use std::alloc::{AllocError, Global};
 
-/// The macros, the open conditionals, and the headers so far.
+/// The macros, the open conditionals, and the headers so far; the allocator, and the tokens of which the macros of headers
+/// are made.
 #[derive(Drop)]
 pub struct State<'a> {
+    pub alloc: Global,
+    pub tokens: &'a Builtins,
     pub macros: Macros<'a>,
     pub groups: Vec<Group>,
     pub headers: Vec<HeaderId>,
+}
+
+fn is_taken(state: GroupState) -> bool
+    ensures { result ≡ is_taken state }
+{
+    matches!(state, GroupState::Taken)
 }
 
 /// The innermost open group is taken, or none is open.
@@ -23,7 +33,7 @@ pub fn takes(groups: &[Group]) -> bool
     ensures { result ≡ takes (reverse groups.now) }
 {
     match groups {
-        [.., group] => group.is_taken,
+        [.., group] => is_taken(group.state),
         [] => true,
     }
 }
@@ -40,7 +50,7 @@ pub fn set_macro<'a>(
     Ok(())
 }
 
-/// Takes a name out.
+/// Takes a name out. The last macro goes to its place in the table, so that no other one moves: nothing sees their order.
 pub fn unset_macro<'a>(macros: &mut Macros<'a>, name: &[u8])
     ensures { table macros.new ≡ with_macro name.now None (table macros.old) }
 {

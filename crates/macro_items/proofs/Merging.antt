@@ -16,9 +16,9 @@ use Rattle.std_collections.proofs.SetLists.{filter_takes, filter_skips}
 use Rattle.std_collections.proofs.SortedSets.{merge_is_union, sorted_merged, sorted_rest, lacks_Less, has-Equal, skip_Greater, skip_Equal, none_in_empty}
 use Rattle.c_tokens.specs.declared.TokenKind.{TokenKind}
 use Rattle.c_tokens.specs.declared.TokenKind.TheVariants.{Name as Named}
-use Rattle.macro_meaning.specs.Macros.{Name, same_name, HideSet}
+use Rattle.macro_meaning.specs.Macros.{Name, same_name, has, HideSet}
 use Rattle.macro_meaning.specs.Turns.{union, intersection, with_name}
-use Rattle.macro_items.specs.HideSets.{names, by_bytes, held}
+use Rattle.macro_items.specs.HideSets.{names, by_bytes}
 
 abbrev pub in_names : List Name → Name → Bool
 in_names = is_member (eq_by_cmp by_bytes)
@@ -26,7 +26,8 @@ in_names = is_member (eq_by_cmp by_bytes)
 abbrev pub merge : List Name → List Name → List Name
 merge = sorted_merge by_bytes true
 
-pub dropped : (set : List (Bor (List ℕ))) (i : ℕ) (d : Bor (List ℕ)) → i < length set → names (drop i set) ≡ (get_or set i d).now ∷ names (drop (i + 1) set)
+pub dropped : (set : List (Bor (List ℕ))) (i : ℕ) (d : Bor (List ℕ)) → i < length set
+    → names (drop i set) ≡ (get_or set i d).now ∷ names (drop (i + 1) set)
 dropped set i d lt = rw (add-one, drop-cons set i d lt) refl
 
 pub pushed : (set : List (Bor (List ℕ))) (r : Bor (List ℕ)) → names (set ++ r ∷ []) ≡ names set ++ r.now ∷ []
@@ -35,37 +36,41 @@ pushed set r = map-append (λ (s : Bor (List ℕ)). s.now) set (r ∷ [])
 nameless : Bor (List ℕ)
 nameless = record { ref_ptr = (0, 0); now = [] }
 
-pub rest_ascends : (set : List (Bor (List ℕ))) (i : ℕ) → i < length set → IsStrictlySortedBy by_bytes (names (drop i set)) → IsStrictlySortedBy by_bytes (names (drop (i + 1) set))
-rest_ascends set i lt s = sorted_rest by_bytes (names (drop i set)) (names (drop (i + 1) set)) (get_or set i nameless).now (dropped set i nameless lt) s
+pub rest_ascends : (set : List (Bor (List ℕ))) (i : ℕ) → i < length set → IsStrictlySortedBy by_bytes (names (drop i set))
+    → IsStrictlySortedBy by_bytes (names (drop (i + 1) set))
+rest_ascends set i lt s =
+    sorted_rest by_bytes (names (drop i set)) (names (drop (i + 1) set)) (get_or set i nameless).now (dropped set i nameless lt) s
 
 -- ---- a set's test is membership by the order
 
-by_order : held ≡ in_names
+by_order : has ≡ in_names
 by_order = λ i set name. list_any (λ other. texts_ties name other i) set
 
-pub held_merged : (xs ys : List Name) → held (merge xs ys) ≡ union (held xs) (held ys)
-held_merged xs ys = rw by_order (λ i name. merge_is_union nat_list_cmp_total xs ys name i)
+pub has_merged : (xs ys : List Name) → has (merge xs ys) ≡ union (has xs) (has ys)
+has_merged xs ys = rw by_order (λ i name. merge_is_union nat_list_cmp_total xs ys name i)
 
-pub held_shared : (xs ys : List Name) → held (filter (in_names ys) xs) ≡ intersection (held xs) (held ys)
-held_shared xs ys =
+pub has_shared : (xs ys : List Name) → has (filter (in_names ys) xs) ≡ intersection (has xs) (has ys)
+has_shared xs ys =
     let laws = eq_by_cmp_equiv nat_list_cmp_total in
     rw by_order (λ i name. is_member-filter laws (in_names ys) name (λ x e. list_any_congr laws name x ys e) xs i)
 
 -- ---- the calls
 
 module _ (a b new : List (Bor (List ℕ))) where
-  pub merged_ascends : names new ≡ merge (names a) (names b) → IsStrictlySortedBy by_bytes (names a) → IsStrictlySortedBy by_bytes (names b) → IsStrictlySortedBy by_bytes (names new)
+  pub merged_ascends : names new ≡ merge (names a) (names b) → IsStrictlySortedBy by_bytes (names a) → IsStrictlySortedBy by_bytes (names b)
+      → IsStrictlySortedBy by_bytes (names new)
   merged_ascends e s t = rw e (sorted_merged nat_list_cmp_total true (names a) (names b) s t)
 
-  pub shared_ascends : names new ≡ filter (in_names (names b)) (names a) → IsStrictlySortedBy by_bytes (names a) → IsStrictlySortedBy by_bytes (names new)
+  pub shared_ascends : names new ≡ filter (in_names (names b)) (names a) → IsStrictlySortedBy by_bytes (names a)
+      → IsStrictlySortedBy by_bytes (names new)
   shared_ascends e s = rw e (IsStrictlySortedBy-filter by_bytes (in_names (names b)) (names a) s)
 
   module _ (v w : List Name) (see_v : names a ≡ v) (see_w : names b ≡ w) where
-    pub merged_is : names new ≡ merge (names a) (names b) → held (names new) ≡ union (held v) (held w)
-    merged_is e = rw (e, see_v, see_w) (held_merged v w)
+    pub merged_is : names new ≡ merge (names a) (names b) → has (names new) ≡ union (has v) (has w)
+    merged_is e = rw (e, see_v, see_w) (has_merged v w)
 
-    pub shared_is : names new ≡ filter (in_names (names b)) (names a) → held (names new) ≡ intersection (held v) (held w)
-    shared_is e = rw (e, see_v, see_w) (held_shared v w)
+    pub shared_is : names new ≡ filter (in_names (names b)) (names a) → has (names new) ≡ intersection (has v) (has w)
+    shared_is e = rw (e, see_v, see_w) (has_shared v w)
 
 pub one_ascends : (n : Name) → IsStrictlySortedBy by_bytes (n ∷ [])
 unfolding IsStrictlySortedBy
@@ -80,8 +85,9 @@ in_twice n other set true is f = f refl
 in_twice n other set false is f = refl
 
 -- a name more is none more where the set has it
-pub has_it : (n : Name) (set : List Name) → true ≡ held set n → held set ≡ union (held (n ∷ [])) (held set)
-has_it n set e = λ i other. in_twice n other set (same_name other n) (held set other) (λ same. list_any_congr nat_list_eq_equiv other n set same ∙ sym e) i
+pub has_it : (n : Name) (set : List Name) → true ≡ has set n → has set ≡ union (has (n ∷ [])) (has set)
+has_it n set e = λ i other. in_twice n other set (same_name other n) (has set other)
+    (λ same. list_any_congr nat_list_eq_equiv other n set same ∙ sym e) i
 
 within : (a b : Bool) → (a || (b || a)) ≡ (b || a)
 within true true = refl
@@ -97,8 +103,8 @@ with_more old (Named n) = λ i other. within (old other) (same_name n other) i
 with_more old _ = λ i other. twice (old other) i
 
 -- a set is within the one that has a name more
-pub grown : (kind : TokenKind) (old new : List Name) → held new ≡ with_name kind (held old) → union (held old) (held new) ≡ held new
-grown kind old new e = rw e (with_more (held old) kind)
+pub grown : (kind : TokenKind) (old new : List Name) → has new ≡ with_name kind (has old) → union (has old) (has new) ≡ has new
+grown kind old new e = rw e (with_more (has old) kind)
 
 -- ---- a merge, where `front` was written and xs and ys are left
 
@@ -106,7 +112,8 @@ merge_nothing : (xs : List Name) → merge xs [] ≡ xs
 merge_nothing [] = refl
 merge_nothing (x ∷ xs) = refl
 
-module _ (front done : List (Bor (List ℕ))) (all : List Name) (i j : ℕ) (a b : List (Bor (List ℕ))) (e : done ≡ (front ++ drop i a) ++ drop j b)
+module _ (front done : List (Bor (List ℕ))) (all : List Name) (i j : ℕ) (a b : List (Bor (List ℕ)))
+    (e : done ≡ (front ++ drop i a) ++ drop j b)
     (so_far : names front ++ merge (names (drop i a)) (names (drop j b)) ≡ all) where
   pub first_over : length a ≤ i → names done ≡ all
   first_over le =
@@ -120,25 +127,31 @@ module _ (front done : List (Bor (List ℕ))) (all : List Name) (i j : ℕ) (a b
 
 -- ---- what two lists share, where `front` was written and xs and ys are left
 
-module _ (front all xs ys us vs : List Name) (x y : Name) (a : xs ≡ x ∷ us) (b : ys ≡ y ∷ vs) (s : IsStrictlySortedBy by_bytes xs) (t : IsStrictlySortedBy by_bytes ys)
+module _ (front all xs ys us vs : List Name) (x y : Name) (a : xs ≡ x ∷ us) (b : ys ≡ y ∷ vs) (s : IsStrictlySortedBy by_bytes xs)
+    (t : IsStrictlySortedBy by_bytes ys)
     (so_far : front ++ filter (in_names ys) xs ≡ all) where
   pub skips_first : Less ≡ by_bytes x y → front ++ filter (in_names ys) us ≡ all
-  skips_first k = ap (λ (ns : List Name). front ++ ns) (sym (filter_skips (in_names ys) xs us x a (lacks_Less nat_list_cmp_total xs ys us vs x y a b t (sym k)))) ∙ so_far
+  skips_first k = ap (λ (ns : List Name). front ++ ns)
+      (sym (filter_skips (in_names ys) xs us x a (lacks_Less nat_list_cmp_total xs ys us vs x y a b t (sym k)))) ∙ so_far
 
   pub takes_both : Equal ≡ by_bytes x y → (front ++ x ∷ []) ++ filter (in_names vs) us ≡ all
   takes_both k =
       let one : filter (in_names ys) xs ≡ x ∷ filter (in_names vs) us =
-      filter_takes (in_names ys) xs us x a (has-Equal nat_list_cmp_total xs ys us vs x y a b (sym k)) ∙ ap (λ (ns : List Name). x ∷ ns) (skip_Equal nat_list_cmp_total xs ys us vs x y a b (λ u. u) s (sym k)) in
+      filter_takes (in_names ys) xs us x a (has-Equal nat_list_cmp_total xs ys us vs x y a b (sym k))
+      ∙ ap (λ (ns : List Name). x ∷ ns) (skip_Equal nat_list_cmp_total xs ys us vs x y a b (λ u. u) s (sym k)) in
       rw append_assoc (ap (λ (ns : List Name). front ++ ns) (sym one) ∙ so_far)
 
   pub skips_second : Greater ≡ by_bytes x y → front ++ filter (in_names vs) xs ≡ all
-  skips_second k = ap (λ (ns : List Name). front ++ ns) (sym (skip_Greater nat_list_cmp_total xs ys us vs x y a b (λ u. u) s (sym k))) ∙ so_far
+  skips_second k = ap (λ (ns : List Name). front ++ ns) (sym (skip_Greater nat_list_cmp_total xs ys us vs x y a b (λ u. u) s (sym k)))
+      ∙ so_far
 
-module _ (front a b : List (Bor (List ℕ))) (all : List Name) (i j : ℕ) (so_far : names front ++ filter (in_names (names (drop j b))) (names (drop i a)) ≡ all) where
+module _ (front a b : List (Bor (List ℕ))) (all : List Name) (i j : ℕ)
+    (so_far : names front ++ filter (in_names (names (drop j b))) (names (drop i a)) ≡ all) where
   pub first_done : length a ≤ i → names front ≡ all
   first_done le = let h = rw (drop_all i a le, append-nil) at so_far in h
 
   pub second_done : length b ≤ j → names front ≡ all
   second_done le =
-      let none : filter (in_names (names (drop j b))) (names (drop i a)) ≡ [] = none_in_empty nat_list_cmp_total (names (drop i a)) (names (drop j b)) (ap names (drop_all j b le)) in
+      let none : filter (in_names (names (drop j b))) (names (drop i a)) ≡ [] = none_in_empty nat_list_cmp_total (names (drop i a))
+      (names (drop j b)) (ap names (drop_all j b le)) in
       let h = rw (none, append-nil) at so_far in h

@@ -1,12 +1,11 @@
--- Lists of names as hide sets.
+-- Lists of names, which are seen as the hide set `has` of them.
 use Rattle.std.specs.Prelude.{ℕ, List, [], map, Option, Some, None}
 use Rattle.std.specs.Borrow.{Bor}
 use Rattle.std.specs.Cmp.Lexicographic.{slice_cmp}
-use Rattle.std.specs.List.{list_any}
 use Rattle.std.specs.Ordering.{nat_cmp}
 use Rattle.std.specs.declared.cmp.Ordering.{Ordering}
 use Rattle.smallvec.specs.SmallVec.{SmallVec}
-use Rattle.macro_meaning.specs.Macros.{Name, same_name, HideSet}
+use Rattle.macro_meaning.specs.Macros.{Name}
 
 abbrev pub names : List (Bor (List ℕ)) → List Name
 names = map (λ r. r.now)
@@ -19,7 +18,3 @@ members (Some list) = names list.items
 -- the order of names by their bytes
 abbrev pub by_bytes : Name → Name → Ordering
 by_bytes = slice_cmp nat_cmp
-
--- the hide set of these names
-abbrev pub held : List Name → HideSet
-held set = λ name. list_any (same_name name) set

@@ -4,30 +4,29 @@ use Rattle.std.specs.Borrow.{Bor}
 use Rattle.std.specs.Cmp.Lexicographic.{pointwise}
 use Rattle.indexmap.specs.IndexMap.{IndexMap, get_by}
 pub use Rattle.macro_items.specs.HideSets.{names}
-use Rattle.macro_items.specs.HideSets.{held}
 use Rattle.macro_items.specs.declared.items.Item.{Item as Held}
-use Rattle.macro_items.specs.declared.items.Piece.{Piece as Part}
-use Rattle.macro_items.specs.declared.items.Piece.TheVariants.{Plain, Parameter}
+use Rattle.macro_items.specs.declared.items.BodyPart.{BodyPart as Part}
+use Rattle.macro_items.specs.declared.items.BodyPart.TheVariants.{Plain, Parameter}
 use Rattle.macro_items.specs.declared.items.Macro.{Macro}
 use Rattle.macro_items.specs.declared.items.Argument.{Argument as Operand}
 use Rattle.macro_items.specs.declared.items.Argument.TheVariants.{Written, Expanded}
-use Rattle.macro_meaning.specs.Macros.{Name, Item, Piece, plain, parameter, Meaning, Macros, Argument, written, expanded}
+use Rattle.macro_meaning.specs.Macros.{Name, has, Item, BodyPart, plain, parameter, Meaning, Macros, Argument, written, expanded}
 
 abbrev pub view : Held → Item
-view t = record { kind = t.kind.now; place = t.place; starts_line = t.starts_line; spaced = t.spaced; hide = held t.hide }
+view t = record { kind = t.kind.now; place = t.place; starts_line = t.starts_line; spaced = t.spaced; hide = has t.hide }
 
 abbrev pub views : List Held → List Item
 views = map view
 
-abbrev pub piece_view : Part → Piece
-piece_view (Plain kind spaced) = plain kind.now spaced
-piece_view (Parameter k) = parameter k
+abbrev pub body_part_view : Part → BodyPart
+body_part_view (Plain kind spaced) = plain kind.now spaced
+body_part_view (Parameter k) = parameter k
 
-abbrev pub piece_views : List Part → List Piece
-piece_views = map piece_view
+abbrev pub body_part_views : List Part → List BodyPart
+body_part_views = map body_part_view
 
 abbrev pub meaning_view : Macro → Meaning
-meaning_view m = record { parameters = option_map (λ s. names s.keys) m.parameters; body = piece_views m.body.items }
+meaning_view m = record { parameters = option_map (λ s. names s.keys) m.parameters; body = body_part_views m.body.items }
 
 abbrev pub argument_view : Operand → Argument
 argument_view (Written ts) = written (views ts.items)

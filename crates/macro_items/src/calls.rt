@@ -1,9 +1,9 @@
 //! The arguments of a macro call (C11 6.10.3p10 and p11).
 
 ghost use Rattle.std.specs.Prelude.{◌≡◌, ◌+◌, ◌≤◌, ◌^◌, ◌<◌, IfOk, vec_len, [], ◌∷◌};
-ghost use Rattle.macro_meaning.specs.Turns.{action, call, is_empty, right_number};
+ghost use Rattle.macro_meaning.specs.Turns.{call, is_empty, right_number};
 ghost use Rattle.macro_items.specs.Views.{left, views, argument_view, argument_views};
-ghost use Rattle.macro_items.specs.Gathering.{action_view, ClosesAs, GathersAs, IsNear};
+ghost use Rattle.macro_items.specs.Gathering.{step, ClosesAs, GathersAs, IsNear};
 
 use crate::hide::HideSet;
 use crate::items::{Argument, Arguments, Item};
@@ -32,7 +32,7 @@ pub struct Call<'a> {
 
 fn step_of(nest: usize, kind: &TokenKind) -> Step
     requires { nest < 2 ^ 63 }
-    ensures is { action_view result ≡ action nest kind.now }
+    ensures is { result ≡ step nest kind.now }
     ensures near { IsNear nest result }
 {
     match kind {

@@ -7,9 +7,9 @@ ghost use Rattle.std.specs.List.Sorted.{IsStrictlySortedBy};
 ghost use Rattle.std.specs.Ordering.{eq_by_cmp};
 ghost use Rattle.std.specs.Rc.{rc_value};
 ghost use Rattle.std.specs.Set.{is_member, sorted_merge};
-ghost use Rattle.macro_meaning.specs.Macros.{Name, no_names};
+ghost use Rattle.macro_meaning.specs.Macros.{Name, has, no_names};
 ghost use Rattle.macro_meaning.specs.Turns.{intersection, union, with_name};
-ghost use Rattle.macro_items.specs.HideSets.{names, members, by_bytes, held};
+ghost use Rattle.macro_items.specs.HideSets.{names, members, by_bytes};
 
 use c_tokens::TokenKind;
 use smallvec::SmallVec;
@@ -38,7 +38,7 @@ impl<'a> Model for HideSet<'a> {
 impl<'a> HideSet<'a> {
     /// No names.
     pub fn empty() -> HideSet<'a>
-        ensures { held result ≡ no_names }
+        ensures { has result ≡ no_names }
     {
         HideSet { list: None }
     }
@@ -67,7 +67,7 @@ impl<'a> HideSet<'a> {
         }
     }
 
-    /// The same names.
+    /// Another holder of the set.
     pub fn copied(&self) -> Result<HideSet<'a>, AllocError>
         ensures { IfOk result (λ s. s ≡ self.now) }
     {
@@ -80,7 +80,7 @@ impl<'a> HideSet<'a> {
 
     /// The name is in the set.
     pub fn has(&self, name: &[u8]) -> bool
-        ensures { result ≡ held self.now name.now }
+        ensures { result ≡ has self.now name.now }
     {
         self.names().binary_search(&name).is_ok()
     }
@@ -98,7 +98,7 @@ impl<'a> HideSet<'a> {
         alloc: Global,
         other: &HideSet<'a>,
     ) -> Result<HideSet<'a>, AllocError>
-        ensures { IfOk result (λ s. held s ≡ intersection (held self.now) (held other.now)) }
+        ensures { IfOk result (λ s. has s ≡ intersection (has self.now) (has other.now)) }
     {
         if self.is_same(other) {
             return self.copied();
@@ -109,7 +109,7 @@ impl<'a> HideSet<'a> {
 
     /// The names of either set.
     pub fn union(&self, alloc: Global, other: &HideSet<'a>) -> Result<HideSet<'a>, AllocError>
-        ensures { IfOk result (λ s. held s ≡ union (held self.now) (held other.now)) }
+        ensures { IfOk result (λ s. has s ≡ union (has self.now) (has other.now)) }
     {
         if self.names().is_empty() {
             return other.copied();
@@ -120,7 +120,7 @@ impl<'a> HideSet<'a> {
 
     /// The set and the name of a token.
     fn with_name(&self, alloc: Global, kind: &'a TokenKind) -> Result<HideSet<'a>, AllocError>
-        ensures { IfOk result (λ s. held s ≡ with_name kind.now (held self.now)) }
+        ensures { IfOk result (λ s. has s ≡ with_name kind.now (has self.now)) }
     {
         match kind {
             TokenKind::Name(name) => self.with(alloc, name.bytes()),
@@ -129,7 +129,7 @@ impl<'a> HideSet<'a> {
     }
 
     fn with(&self, alloc: Global, name: &'a [u8]) -> Result<HideSet<'a>, AllocError>
-        ensures { IfOk result (λ s. held s ≡ union (held (name.now ∷ [])) (held self.now)) }
+        ensures { IfOk result (λ s. has s ≡ union (has (name.now ∷ [])) (has self.now)) }
     {
         let names = self.names();
         match names.binary_search(&name) {
@@ -147,13 +147,13 @@ impl<'a> HideSet<'a> {
 pub struct Hides<'a> {
     pub old: HideSet<'a>,
     pub new: HideSet<'a>,
-    ghost grown: { union (held old) (held new) ≡ held new },
+    ghost grown: { union (has old) (has new) ≡ has new },
 }
 
 impl<'a> Hides<'a> {
     /// What is replaced has this set and the name of this token.
     pub fn of(alloc: Global, old: HideSet<'a>, kind: &'a TokenKind) -> Result<Hides<'a>, AllocError>
-        ensures { IfOk result (λ h. held h.new ≡ with_name kind.now (held old.entry)) }
+        ensures { IfOk result (λ h. has h.new ≡ with_name kind.now (has old.entry)) }
     {
         let new = old.with_name(alloc, kind)?;
         Ok(Hides { old, new })

@@ -1,11 +1,11 @@
 //! Tokens under expansion, and macros.
 
 ghost use Rattle.std.specs.Prelude.{◌≡◌, IfOk, option_map};
-ghost use Rattle.macro_meaning.specs.Macros.{token};
+ghost use Rattle.macro_meaning.specs.Macros.{token, opens, closes, is_comma};
 ghost use Rattle.macro_items.specs.Views.{view, macro_at};
 
 use crate::hide::HideSet;
-use c_tokens::{Token, TokenKind};
+use c_tokens::{Punct, Token, TokenKind};
 use fc_base::{NoMemory, Place, Text};
 use indexmap::{IndexMap, IndexSet};
 use smallvec::SmallVec;
@@ -41,7 +41,7 @@ impl Item<'_> {
 
 /// A part of a replacement list: a token, with whether it is spaced, or a parameter by its number from 0.
 #[derive(Clone, Copy)]
-pub enum Piece<'a> {
+pub enum BodyPart<'a> {
     Plain(&'a TokenKind, bool),
     Parameter(usize),
 }
@@ -50,7 +50,7 @@ pub enum Piece<'a> {
 #[derive(Drop)]
 pub struct Macro<'a> {
     pub parameters: Option<IndexSet<&'a [u8]>>,
-    pub body: Vec<Piece<'a>>,
+    pub body: Vec<BodyPart<'a>>,
 }
 
 /// The macros by their names.
@@ -61,6 +61,27 @@ pub fn find<'m, 'a>(macros: &'m Macros<'a>, name: &[u8]) -> Option<&'m Macro<'a>
     ensures { option_map (λ m. m.now) result ≡ macro_at macros.now name.now }
 {
     macros.get(name)
+}
+
+/// An opening bracket.
+pub fn opens(kind: &TokenKind) -> bool
+    ensures { result ≡ opens kind.now }
+{
+    matches!(kind, TokenKind::Punct(Punct::LeftParen))
+}
+
+/// A closing bracket.
+pub fn closes(kind: &TokenKind) -> bool
+    ensures { result ≡ closes kind.now }
+{
+    matches!(kind, TokenKind::Punct(Punct::RightParen))
+}
+
+/// A comma.
+pub fn is_comma(kind: &TokenKind) -> bool
+    ensures { result ≡ is_comma kind.now }
+{
+    matches!(kind, TokenKind::Punct(Punct::Comma))
 }
 
 /// An argument of a call as it was written, or expanded.

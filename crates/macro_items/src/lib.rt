@@ -7,4 +7,7 @@ mod items;
 
 pub use calls::{Call, gather, right_number};
 pub use hide::{HideSet, Hides};
-pub use items::{Argument, Arguments, Item, Macro, Macros, NESTING_LIMIT, Piece, find};
+pub use items::{
+    Argument, Arguments, BodyPart, Item, Macro, Macros, NESTING_LIMIT, closes, find, is_comma,
+    opens,
+};

@@ -3,7 +3,8 @@ use Rattle.std.proofs.Common.{◌≡◌, ℕ, zero, suc, ◌+◌, ◌≤◌, ◌
 use Rattle.std.proofs.lemmas.List.{drop-drop, drop_all, append-nil}
 use Rattle.c_tokens.specs.declared.Token.{Token}
 use Rattle.macro_meaning.specs.Macros.{Name, Macros, Item, item, items}
-use Rattle.macro_meaning.specs.Moves.{is_defined, asked, answer, before, answered, with_answers}
+use Rattle.macro_meaning.specs.Conditions.{asks_defined, answer}
+use Rattle.macro_meaning.specs.Answering.{asked, before, answered, with_answers}
 
 -- the items of the line, behind those from before
 abbrev pub behind : List Item → Option (List Token) → Option (List Item)
@@ -20,32 +21,36 @@ passed ms zero ts = refl
 passed ms (suc n) [] = refl
 passed ms (suc n) (t ∷ ts) = passed ms n ts
 
-module _ (ms : Macros) (front : List Item) (line : List Token) (i : ℕ) (x : Token) (all : Option (List Item)) (lt : i < length line) (is : x ≡ get_or line i x)
+module _ (ms : Macros) (front : List Item) (line : List Token) (i : ℕ) (x : Token) (all : Option (List Item)) (lt : i < length line)
+    (is : x ≡ get_or line i x)
     (same : behind front (with_answers ms 0 (drop i line)) ≡ all) where
   token_dropped : drop i line ≡ x ∷ drop (i + 1) line
   token_dropped = rw add-one (drop-cons line i x lt ∙ ap (λ (z : Token). z ∷ drop (suc i) line) (sym is))
 
-  next : with_answers ms 0 (drop i line) ≡ (if is_defined x.kind then answered ms x (asked (drop (i + 1) line)) (λ n. with_answers ms n (drop (i + 1) line)) else before x (with_answers ms 0 (drop (i + 1) line)))
+  next : with_answers ms 0 (drop i line) ≡
+      (if asks_defined x.kind then answered ms x (asked (drop (i + 1) line)) (λ n. with_answers ms n (drop (i + 1) line)) else before x (with_answers ms 0 (drop (i + 1) line)))
   unfolding with_answers
   next = ap (with_answers ms 0) token_dropped
 
-  pub no_answer : is_defined x.kind ≡ true → None ≡ asked (drop (i + 1) line) → None ≡ all
+  pub no_answer : asks_defined x.kind ≡ true → None ≡ asked (drop (i + 1) line) → None ≡ all
   no_answer d a = let g = rw (next, d, ← a) at same in g
 
-  pub one_answer : (name : Name) (used : ℕ) → is_defined x.kind ≡ true → Some (name, used) ≡ asked (drop (i + 1) line)
+  pub one_answer : (name : Name) (used : ℕ) → asks_defined x.kind ≡ true → Some (name, used) ≡ asked (drop (i + 1) line)
       → behind (front ++ item (answer ms x name) ∷ []) (with_answers ms 0 (drop (i + 1 + used) line)) ≡ all
   one_answer name used d a =
       let g = rw (next, d, ← a) at same in
       let s : with_answers ms used (drop (i + 1) line) ≡ with_answers ms 0 (drop (i + 1 + used) line) =
       passed ms used (drop (i + 1) line) ∙ ap (with_answers ms 0) (drop-drop used (i + 1) line) in
-      ap (behind (front ++ item (answer ms x name) ∷ [])) (sym s) ∙ sym (behind_more front (answer ms x name) (with_answers ms used (drop (i + 1) line))) ∙ g
+      ap (behind (front ++ item (answer ms x name) ∷ [])) (sym s)
+      ∙ sym (behind_more front (answer ms x name) (with_answers ms used (drop (i + 1) line))) ∙ g
 
-  pub one_token : is_defined x.kind ≡ false → behind (front ++ item x ∷ []) (with_answers ms 0 (drop (i + 1) line)) ≡ all
+  pub one_token : asks_defined x.kind ≡ false → behind (front ++ item x ∷ []) (with_answers ms 0 (drop (i + 1) line)) ≡ all
   one_token d =
       let g = rw (next, d) at same in
       sym (behind_more front x (with_answers ms 0 (drop (i + 1) line))) ∙ g
 
-pub all_answered : (ms : Macros) (front : List Item) (line : List Token) (i : ℕ) (all : Option (List Item)) → length line ≤ i → behind front (with_answers ms 0 (drop i line)) ≡ all → Some front ≡ all
+pub all_answered : (ms : Macros) (front : List Item) (line : List Token) (i : ℕ) (all : Option (List Item)) → length line ≤ i
+    → behind front (with_answers ms 0 (drop i line)) ≡ all → Some front ≡ all
 unfolding with_answers
 all_answered ms front line i all le h =
     let d : drop i line ≡ [] = drop_all i line le in

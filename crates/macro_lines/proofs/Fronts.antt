@@ -3,22 +3,24 @@ use Rattle.std.proofs.Common.{◌≡◌, ℕ, ◌<◌, ◌≤◌, ◌==◌, Bool
 use Rattle.std.specs.List.{prefix_len}
 use Rattle.std.proofs.lemmas.Bool.Decides.{nat_tests}
 use Rattle.c_tokens.specs.declared.Token.{Token}
-use Rattle.macro_meaning.specs.Lines.{is_directive, in_text, in_line, nothing, text, text_or_directive, front}
+use Rattle.macro_meaning.specs.Lines.{is_directive, in_text, in_line, nothing, text, text_or_directive, part_of}
 use Rattle.macro_lines.specs.declared.lines.GroupPart.TheVariants.{Line}
 use Rattle.macro_lines.specs.Lines.{PartIs}
 
-pub front_none : (ts : List Token) → length ts ≡ 0 → front ts ≡ nothing
-unfolding front
+pub front_none : (ts : List Token) → length ts ≡ 0 → part_of ts ≡ nothing
+unfolding part_of
 front_none [] e = refl
 front_none (t ∷ ts) e = cc
 
-pub front_line : (ts : List Token) (d : Token) (n : ℕ) → 0 < length ts → is_directive (get_or ts 0 d) ≡ true → n ≡ prefix_len in_line (drop 1 ts) → n ≤ length (drop 1 ts) → PartIs ts (Line n)
-unfolding front
+pub front_line : (ts : List Token) (d : Token) (n : ℕ) → 0 < length ts → is_directive (get_or ts 0 d) ≡ true
+    → n ≡ prefix_len in_line (drop 1 ts) → n ≤ length (drop 1 ts) → PartIs ts (Line n)
+unfolding part_of
 front_line [] d n lt e p le = absurd (omega arith)
 front_line (t ∷ ts) d n lt e p le = (t, rw (e, add-one, p) refl, refl, omega arith)
 
-pub front_text : (ts : List Token) (d : Token) (n : ℕ) → 0 < length ts → is_directive (get_or ts 0 d) ≡ false → n ≡ prefix_len in_text ts → front ts ≡ text (take n ts) (drop n ts)
-unfolding front
+pub front_text : (ts : List Token) (d : Token) (n : ℕ) → 0 < length ts → is_directive (get_or ts 0 d) ≡ false → n ≡ prefix_len in_text ts
+    → part_of ts ≡ text (take n ts) (drop n ts)
+unfolding part_of
 front_text [] d n lt e p = absurd (omega arith)
 front_text (t ∷ ts) d n lt e p = ap (λ (v : Bool). text_or_directive v t ts) e ∙ rw p refl
 

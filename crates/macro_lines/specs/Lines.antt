@@ -1,13 +1,9 @@
--- What a list begins with, the entries of macros and refusals, as plain data.
-use Rattle.std.specs.Prelude.{◌≡◌, ℕ, ◌+◌, ◌≤◌, List, ◌∷◌, length, map, take, drop, Result, Err}
+-- What a list begins with, and the entries of macros, as plain data.
+use Rattle.std.specs.Prelude.{◌≡◌, ℕ, ◌+◌, ◌≤◌, List, ◌∷◌, length, map, take, drop}
 use Rattle.std.specs.Borrow.{Bor}
-use Rattle.fc_base.specs.declared.Fault.{Fault}
-use Rattle.fc_base.specs.declared.Fault.TheVariants.{Refused}
-use Rattle.fc_base.specs.declared.Rule.{Rule}
-use Rattle.fc_base.specs.declared.Place.{Place}
 use Rattle.c_tokens.specs.declared.Token.{Token}
 use Rattle.macro_meaning.specs.Macros.{Name, Meaning}
-use Rattle.macro_meaning.specs.Lines.{front, nothing, text, directive}
+use Rattle.macro_meaning.specs.Lines.{part_of, nothing, text, directive}
 use Rattle.macro_items.specs.declared.Macro.{Macro}
 use Rattle.macro_items.specs.Views.{meaning_view}
 use Rattle.macro_lines.specs.declared.lines.GroupPart.{GroupPart}
@@ -15,9 +11,10 @@ use Rattle.macro_lines.specs.declared.lines.GroupPart.TheVariants.{Nothing, Text
 
 -- how many tokens a text has, or a directive with its line
 abbrev pub PartIs : List Token → GroupPart → Type 0
-PartIs ts Nothing = front ts ≡ nothing
-PartIs ts (Text n) = (front ts ≡ text (take n ts) (drop n ts)) × (1 ≤ n) × (n ≤ length ts)
-PartIs ts (Line n) = (t : Token) × (front ts ≡ directive t (take n (drop 1 ts)) (drop (n + 1) ts)) × (ts ≡ t ∷ drop 1 ts) × (n + 1 ≤ length ts)
+PartIs ts Nothing = part_of ts ≡ nothing
+PartIs ts (Text n) = (part_of ts ≡ text (take n ts) (drop n ts)) × (1 ≤ n) × (n ≤ length ts)
+PartIs ts (Line n) = (t : Token) × (part_of ts ≡ directive t (take n (drop 1 ts)) (drop (n + 1) ts)) × (ts ≡ t ∷ drop 1 ts)
+    × (n + 1 ≤ length ts)
 
 -- a name with what it stands for
 abbrev pub entry_view : Bor (List ℕ) × Macro → Name × Meaning
@@ -25,6 +22,3 @@ entry_view e = (e.0.now, meaning_view e.1)
 
 abbrev pub entry_views : List (Bor (List ℕ) × Macro) → List (Name × Meaning)
 entry_views = map entry_view
-
-abbrev pub Refuses : {T : Type 0} → Result T Fault → Rule → Place → Type 0
-Refuses r rule place = r ≡ Err (Refused (record { rule = rule; place = place }))

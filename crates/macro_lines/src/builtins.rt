@@ -3,7 +3,7 @@
 ghost use Rattle.std.specs.Prelude.{◌≡◌, codes};
 ghost use Rattle.c_tokens.specs.declared.TokenKind.TheVariants as token;
 ghost use Rattle.c_tokens.specs.declared.Punct.TheVariants as punct;
-ghost use Rattle.macro_meaning.specs.Definitions.{literal};
+ghost use Rattle.macro_meaning.specs.Definitions.{number_token};
 
 use c_tokens::{NumberKind, Punct, TokenKind};
 use fc_base::{NoMemory, Text};
@@ -27,18 +27,18 @@ pub struct Builtins {
     ghost star_is: { star ≡ token.Punct punct.Star },
     ghost minus_is: { minus ≡ token.Punct punct.Minus },
     ghost void_is: { void ≡ token.Name (codes "void") },
-    ghost zero_is: { zero ≡ literal 0 },
-    ghost one_is: { one ≡ literal 1 },
-    ghost two_is: { two ≡ literal 2 },
-    ghost three_is: { three ≡ literal 3 },
+    ghost zero_is: { zero ≡ number_token 0 },
+    ghost one_is: { one ≡ number_token 1 },
+    ghost two_is: { two ≡ number_token 2 },
+    ghost three_is: { three ≡ number_token 3 },
 }
 
 /// A macro's name, and what it stands for.
 pub type Entry<'a> = (&'a [u8], Macro<'a>);
 
-/// The token of a number's spelling, where `0` is an octal literal.
+/// The token of a number's spelling, where `0` is an octal number_token.
 fn number(value: u64) -> TokenKind
-    ensures { result ≡ literal value }
+    ensures { result ≡ number_token value }
 {
     TokenKind::Number {
         value,

@@ -1,42 +1,25 @@
 //! The conditions of `if` and `elif` directives (C11 6.10.1).
 
 ghost use Rattle.std.specs.Prelude.{◌≡◌, ◌+◌, ◌≤◌, length, IfOk, IfSome, option_map, map, if◌then◌else◌, Some, None, []};
-ghost use Rattle.macro_meaning.specs.Macros.{opens, closes, item, items};
-ghost use Rattle.macro_meaning.specs.Moves.{bracketed, asked, is_defined, answer, with_answers};
+ghost use Rattle.macro_meaning.specs.Macros.{item, items};
+ghost use Rattle.macro_meaning.specs.Conditions.{asks_defined, answer};
+ghost use Rattle.macro_meaning.specs.Answering.{asked_in_brackets, asked, with_answers};
 ghost use Rattle.macro_items.specs.Views.{table, view, views};
 ghost use Rattle.macro_conditions.specs.Conditions.{now, Decides};
-ghost use Rattle.macro_lines.specs.Lines.{Refuses};
-ghost use Rattle.macro_lines.specs.Comes.{HoldsAs};
+ghost use Rattle.macro_lines.specs.Conditions.{HoldsAs};
 
 use crate::builtins::Builtins;
 use crate::lines::{after, is_defined_word, name_of};
-use c_tokens::{Punct, Token, TokenKind};
-use fc_base::{Fault, Place, Refusal, Rule};
+use c_tokens::{Token, TokenKind};
+use fc_base::{Fault, Place, Rule};
 use macro_conditions::condition;
-use macro_items::{HideSet, Item, Macros, find};
+use macro_items::{HideSet, Item, Macros, closes, find, opens};
 use macro_replacement::replace;
 use std::alloc::{AllocError, Global};
 
-fn opens(kind: &TokenKind) -> bool
-    ensures { result ≡ opens kind.now }
-{
-    match kind {
-        TokenKind::Punct(Punct::LeftParen) => true,
-        _ => false,
-    }
-}
-
-fn closes(kind: &TokenKind) -> bool
-    ensures { result ≡ closes kind.now }
-{
-    match kind {
-        TokenKind::Punct(Punct::RightParen) => true,
-        _ => false,
-    }
-}
-
-fn bracketed(tokens: &[Token]) -> Option<(&[u8], usize)>
-    ensures found { option_map (λ r. (r.0.now, r.1)) result ≡ bracketed tokens.now }
+/// The name between brackets, and how many tokens `( NAME )` are.
+fn asked_in_brackets(tokens: &[Token]) -> Option<(&[u8], usize)>
+    ensures found { option_map (λ r. (r.0.now, r.1)) result ≡ asked_in_brackets tokens.now }
     ensures within { IfSome result (λ r. r.1 ≤ length tokens.now + 1) }
 {
     if tokens.len() < 2 || !closes(&tokens[1].kind) {
@@ -57,7 +40,7 @@ fn asked(tokens: &[Token]) -> Option<(&[u8], usize)>
         return None;
     }
     if opens(&tokens[0].kind) {
-        return bracketed(after(tokens, 1));
+        return asked_in_brackets(after(tokens, 1));
     }
     match name_of(&tokens[0].kind) {
         Some(name) => Some((name, 1)),
@@ -65,8 +48,8 @@ fn asked(tokens: &[Token]) -> Option<(&[u8], usize)>
     }
 }
 
-fn is_defined(kind: &TokenKind) -> bool
-    ensures { result ≡ is_defined kind.now }
+fn asks_defined(kind: &TokenKind) -> bool
+    ensures { result ≡ asks_defined kind.now }
 {
     match kind {
         TokenKind::Name(name) => is_defined_word(name.bytes()),
@@ -112,7 +95,7 @@ fn push_answered<'a>(
     while at < line.len() {
         let token = &line[at];
         at += 1;
-        if is_defined(&token.kind) {
+        if asks_defined(&token.kind) {
             let Some((name, used)) = asked(after(line, at)) else {
                 return Ok(false);
             };
@@ -149,13 +132,6 @@ fn kinds<'a>(alloc: Global, items: &[Item<'a>]) -> Result<Vec<&'a TokenKind>, Al
     Ok(kinds)
 }
 
-/// A refusal at its place.
-pub fn refuse<T>(rule: Rule, place: Place) -> Result<T, Fault>
-    ensures { Refuses result rule place }
-{
-    Err(Fault::Refused(Refusal { rule, place }))
-}
-
 /// Whether the items are a condition that holds, none where they are no condition.
 fn decided(alloc: Global, items: &[Item<'_>]) -> Result<Option<bool>, AllocError>
     ensures { IfOk result (λ d. Decides (map (λ x. x.kind) (views items.now)) d) }
@@ -176,11 +152,11 @@ pub fn holds<'a>(
     ensures { HoldsAs result (table macros.now) count place line.now }
 {
     let Some(items) = with_answers(alloc, tokens, macros, line)? else {
-        return refuse(Rule::BadCondition, place);
+        return Err(Fault::refused(Rule::BadCondition, place));
     };
     let (items, count) = replace(alloc, macros, items, count)?;
     match decided(alloc, &items)? {
         Some(holds) => Ok((holds, count)),
-        None => refuse(Rule::BadCondition, place),
+        None => Err(Fault::refused(Rule::BadCondition, place)),
     }
 }

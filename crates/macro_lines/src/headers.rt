@@ -1,168 +1,98 @@
-//! The macros that come with headers (C11 7.19 to 7.22, POSIX).
+//! The macros that no line defines: those of headers, and `_FORTIFY_SOURCE`.
 
-ghost use Rattle.std.specs.Prelude.{◌≡◌, IfOk, OnOk, false, codes, [], ◌∷◌, ◌++◌};
-ghost use Rattle.macro_meaning.specs.Definitions.{null, end_of_file, number_macro, plain_macro, header_macros, fortify_source};
+ghost use Rattle.std.specs.Prelude.{◌≡◌, IfOk, false, map, [], ◌∷◌};
+ghost use Rattle.c_headers.specs.declared.headers.MacroValue.TheVariants as value;
+ghost use Rattle.c_headers.specs.Headers.{macro_view};
 ghost use Rattle.macro_meaning.specs.Macros.{plain};
-ghost use Rattle.macro_items.specs.Views.{meaning_view, piece_views};
+ghost use Rattle.macro_meaning.specs.Definitions.{plain_macro, value_tokens, header_macro, header_macros, fortify_source};
+ghost use Rattle.macro_items.specs.Views.{meaning_view, body_part_views};
 ghost use Rattle.macro_lines.specs.Lines.{entry_view, entry_views};
 
 use crate::builtins::{Builtins, Entry};
+use c_headers::{HeaderMacro, MacroValue};
 use c_tokens::{HeaderId, TokenKind};
 use fc_base::Level;
-use macro_items::{Macro, Piece};
+use macro_items::{BodyPart, Macro};
 use std::alloc::{AllocError, Global};
 
-fn plain_macro<'a>(alloc: Global, pieces: &[Piece<'a>]) -> Result<Macro<'a>, AllocError>
-    ensures { IfOk result (λ m. meaning_view m ≡ plain_macro (piece_views pieces.now)) }
+fn plain_macro<'a>(alloc: Global, parts: &[BodyPart<'a>]) -> Result<Macro<'a>, AllocError>
+    ensures { IfOk result (λ m. meaning_view m ≡ plain_macro (body_part_views parts.now)) }
 {
     Ok(Macro {
         parameters: None,
-        body: Vec::from_slice(alloc, pieces)?,
+        body: Vec::from_slice(alloc, parts)?,
     })
 }
 
-fn null<'a>(alloc: Global, tokens: &'a Builtins) -> Result<Entry<'a>, AllocError>
-    ensures { IfOk result (λ e. entry_view e ≡ null) }
+fn null_pointer<'a>(alloc: Global, tokens: &'a Builtins) -> Result<Macro<'a>, AllocError>
+    ensures { IfOk result (λ m. meaning_view m ≡ plain_macro (value_tokens value.NullPointer)) }
 {
-    let meaning = plain_macro(
+    plain_macro(
         alloc,
         &[
-            Piece::Plain(&tokens.left_paren, false),
-            Piece::Plain(&tokens.left_paren, false),
-            Piece::Plain(&tokens.void, false),
-            Piece::Plain(&tokens.star, false),
-            Piece::Plain(&tokens.right_paren, false),
-            Piece::Plain(&tokens.zero, false),
-            Piece::Plain(&tokens.right_paren, false),
+            BodyPart::Plain(&tokens.left_paren, false),
+            BodyPart::Plain(&tokens.left_paren, false),
+            BodyPart::Plain(&tokens.void, false),
+            BodyPart::Plain(&tokens.star, false),
+            BodyPart::Plain(&tokens.right_paren, false),
+            BodyPart::Plain(&tokens.zero, false),
+            BodyPart::Plain(&tokens.right_paren, false),
         ],
-    )?;
-    Ok((b"NULL", meaning))
+    )
 }
 
-fn end_of_file<'a>(alloc: Global, tokens: &'a Builtins) -> Result<Entry<'a>, AllocError>
-    ensures { IfOk result (λ e. entry_view e ≡ end_of_file) }
+fn minus_one<'a>(alloc: Global, tokens: &'a Builtins) -> Result<Macro<'a>, AllocError>
+    ensures { IfOk result (λ m. meaning_view m ≡ plain_macro (value_tokens value.MinusOne)) }
 {
-    let meaning = plain_macro(
+    plain_macro(
         alloc,
         &[
-            Piece::Plain(&tokens.left_paren, false),
-            Piece::Plain(&tokens.minus, false),
-            Piece::Plain(&tokens.one, false),
-            Piece::Plain(&tokens.right_paren, false),
+            BodyPart::Plain(&tokens.left_paren, false),
+            BodyPart::Plain(&tokens.minus, false),
+            BodyPart::Plain(&tokens.one, false),
+            BodyPart::Plain(&tokens.right_paren, false),
         ],
-    )?;
-    Ok((b"EOF", meaning))
+    )
 }
 
-fn number_macro<'a>(
-    alloc: Global,
-    name: &'a [u8],
-    number: &'a TokenKind,
-) -> Result<Entry<'a>, AllocError>
-    ensures { IfOk result (λ e. entry_view e ≡ (name.now, plain_macro (plain number.now false ∷ []))) }
+fn number<'a>(alloc: Global, token: &'a TokenKind) -> Result<Macro<'a>, AllocError>
+    ensures { IfOk result (λ m. meaning_view m ≡ plain_macro (plain token.now false ∷ [])) }
 {
-    let meaning = plain_macro(alloc, &[Piece::Plain(number, false)])?;
-    Ok((name, meaning))
+    plain_macro(alloc, &[BodyPart::Plain(token, false)])
 }
 
-/// The feature test macro, which is defined before the first line.
-pub fn fortify_source<'a>(
-    alloc: Global,
-    tokens: &'a Builtins,
-    level: Level,
-) -> Result<Entry<'a>, AllocError>
-    ensures { IfOk result (λ e. entry_view e ≡ fortify_source level) }
+/// What stands for a value of a header's macro.
+fn value<'a>(alloc: Global, tokens: &'a Builtins, of: MacroValue) -> Result<Macro<'a>, AllocError>
+    ensures { IfOk result (λ m. meaning_view m ≡ plain_macro (value_tokens of)) }
 {
-    match level {
-        Level::Zero => number_macro(alloc, b"_FORTIFY_SOURCE", &tokens.zero),
-        Level::Three => number_macro(alloc, b"_FORTIFY_SOURCE", &tokens.three),
+    match of {
+        MacroValue::NullPointer => null_pointer(alloc, tokens),
+        MacroValue::MinusOne => minus_one(alloc, tokens),
+        MacroValue::Zero => number(alloc, &tokens.zero),
+        MacroValue::One => number(alloc, &tokens.one),
+        MacroValue::Two => number(alloc, &tokens.two),
     }
 }
 
-fn push_number<'a>(
-    alloc: Global,
-    macros: &mut Vec<Entry<'a>>,
-    name: &'a [u8],
-    number: &'a TokenKind,
-) -> Result<(), AllocError>
-    ensures { OnOk result (entry_views macros.new.items ≡ entry_views macros.old.items ++ (name.now, plain_macro (plain number.now false ∷ [])) ∷ []) }
+fn entry<'a>(alloc: Global, tokens: &'a Builtins, of: &HeaderMacro) -> Result<Entry<'a>, AllocError>
+    ensures { IfOk result (λ e. entry_view e ≡ header_macro (macro_view of.now)) }
 {
-    macros.push(number_macro(alloc, name, number)?)?;
-    Ok(())
+    let meaning = value(alloc, tokens, of.value)?;
+    Ok((of.name.as_bytes(), meaning))
 }
 
-/// Puts NULL into an empty list.
-fn push_null<'a>(
+fn entries<'a>(
     alloc: Global,
     tokens: &'a Builtins,
-    macros: &mut Vec<Entry<'a>>,
-) -> Result<(), AllocError>
-    requires { macros.old.items ≡ [] }
-    ensures { OnOk result (entry_views macros.new.items ≡ null ∷ []) }
+    macros: &[HeaderMacro],
+) -> Result<Vec<Entry<'a>>, AllocError>
+    ensures { IfOk result (λ v. entry_views v.items ≡ map (λ m. header_macro (macro_view m)) macros.now) }
 {
-    macros.push(null(alloc, tokens)?)?;
-    Ok(())
-}
-
-fn stdio<'a>(
-    alloc: Global,
-    tokens: &'a Builtins,
-    macros: &mut Vec<Entry<'a>>,
-) -> Result<(), AllocError>
-    requires { macros.old.items ≡ [] }
-    ensures { OnOk result (entry_views macros.new.items ≡ null ∷ end_of_file ∷ []) }
-{
-    macros.push(null(alloc, tokens)?)?;
-    macros.push(end_of_file(alloc, tokens)?)?;
-    Ok(())
-}
-
-fn stdlib<'a>(
-    alloc: Global,
-    tokens: &'a Builtins,
-    macros: &mut Vec<Entry<'a>>,
-) -> Result<(), AllocError>
-    requires { macros.old.items ≡ [] }
-    ensures { OnOk result (entry_views macros.new.items ≡ null ∷ number_macro (codes "EXIT_SUCCESS") 0 ∷ number_macro (codes "EXIT_FAILURE") 1 ∷ []) }
-{
-    push_null(alloc, tokens, macros)?;
-    push_number(alloc, macros, b"EXIT_SUCCESS", &tokens.zero)?;
-    push_number(alloc, macros, b"EXIT_FAILURE", &tokens.one)?;
-    Ok(())
-}
-
-fn unistd<'a>(
-    alloc: Global,
-    tokens: &'a Builtins,
-    macros: &mut Vec<Entry<'a>>,
-) -> Result<(), AllocError>
-    requires { macros.old.items ≡ [] }
-    ensures { OnOk result (entry_views macros.new.items ≡ null ∷ number_macro (codes "STDIN_FILENO") 0 ∷ number_macro (codes "STDOUT_FILENO") 1 ∷ number_macro (codes "STDERR_FILENO") 2 ∷ []) }
-{
-    push_null(alloc, tokens, macros)?;
-    push_number(alloc, macros, b"STDIN_FILENO", &tokens.zero)?;
-    push_number(alloc, macros, b"STDOUT_FILENO", &tokens.one)?;
-    push_number(alloc, macros, b"STDERR_FILENO", &tokens.two)?;
-    Ok(())
-}
-
-/// Puts the macros of a header into an empty list.
-fn push_macros<'a>(
-    alloc: Global,
-    tokens: &'a Builtins,
-    header: HeaderId,
-    macros: &mut Vec<Entry<'a>>,
-) -> Result<(), AllocError>
-    requires { macros.old.items ≡ [] }
-    ensures { OnOk result (entry_views macros.new.items ≡ header_macros header) }
-{
-    match header {
-        HeaderId::String | HeaderId::Stddef => push_null(alloc, tokens, macros),
-        HeaderId::Strings | HeaderId::Stdint => Ok(()),
-        HeaderId::Stdio => stdio(alloc, tokens, macros),
-        HeaderId::Stdlib => stdlib(alloc, tokens, macros),
-        HeaderId::Unistd => unistd(alloc, tokens, macros),
+    let mut entries = Vec::new(alloc);
+    for m in macros {
+        entries.push(entry(alloc, tokens, m)?)?;
     }
+    Ok(entries)
 }
 
 /// The macros of a header.
@@ -173,7 +103,20 @@ pub fn header_macros<'a>(
 ) -> Result<Vec<Entry<'a>>, AllocError>
     ensures { IfOk result (λ v. entry_views v.items ≡ header_macros header) }
 {
-    let mut macros = Vec::new(alloc);
-    push_macros(alloc, tokens, header, &mut macros)?;
-    Ok(macros)
+    entries(alloc, tokens, header.macros())
+}
+
+/// The feature test macro, which is defined before the first line.
+pub fn fortify_source<'a>(
+    alloc: Global,
+    tokens: &'a Builtins,
+    level: Level,
+) -> Result<Entry<'a>, AllocError>
+    ensures { IfOk result (λ e. entry_view e ≡ fortify_source level) }
+{
+    let digit = match level {
+        Level::Zero => &tokens.zero,
+        Level::Three => &tokens.three,
+    };
+    Ok((b"_FORTIFY_SOURCE", number(alloc, digit)?))
 }

@@ -7,8 +7,6 @@ mod headers;
 mod lines;
 
 pub use builtins::{Builtins, Entry, make_builtins};
-pub use conditions::{holds, item, refuse};
+pub use conditions::{holds, item};
 pub use headers::{fortify_source, header_macros};
-pub use lines::{
-    GroupPart, after, first, header_named, is_defined_word, name_of, part_of, word_of,
-};
+pub use lines::{GroupPart, after, directive_word, first, is_defined_word, name_of, part_of};

@@ -4,14 +4,14 @@ ghost use Rattle.std.specs.Prelude.{◌≡◌, ◌+◌, ◌≤◌, ◌<◌, leng
 ghost use Rattle.std.specs.List.{prefix_len};
 ghost use Rattle.macro_meaning.specs.Macros.{same_name};
 ghost use Rattle.macro_meaning.specs.Definitions.{name_of, is_defined_word};
-ghost use Rattle.macro_meaning.specs.Lines.{is_directive, in_text, in_line, word, word_of, header_named};
+ghost use Rattle.macro_meaning.specs.Lines.{is_directive, in_text, in_line, directive_named, directive_word};
 ghost use Rattle.macro_lines.specs.Lines.{PartIs};
 
-use c_tokens::{HeaderId, Punct, Token, TokenKind};
+use c_tokens::{Token, TokenKind};
 use macro_meaning::Word;
 
 /// What a list begins with: a text of so many tokens, or a directive with so many further tokens on its line.
-#[derive(Clone, Copy, Debug)]
+#[derive(Clone, Copy)]
 pub enum GroupPart {
     Nothing,
     Text(usize),
@@ -21,10 +21,7 @@ pub enum GroupPart {
 fn is_directive(token: &Token) -> bool
     ensures { result ≡ is_directive token.now }
 {
-    match token.kind {
-        TokenKind::Punct(Punct::Hash) => token.starts_line,
-        _ => false,
-    }
+    token.kind.is_hash() && token.starts_line
 }
 
 fn text_len(tokens: &[Token]) -> usize
@@ -88,7 +85,7 @@ pub fn name_of(kind: &TokenKind) -> Option<&[u8]>
     }
 }
 
-/// The same bytes.
+/// Whether two names have the same bytes.
 fn same_name(a: &[u8], b: &[u8]) -> bool
     ensures { result ≡ same_name a.now b.now }
 {
@@ -102,8 +99,8 @@ pub fn is_defined_word(name: &[u8]) -> bool
     same_name(name, b"defined")
 }
 
-fn word(name: &[u8]) -> Word
-    ensures { result ≡ word name.now }
+fn directive_named(name: &[u8]) -> Word
+    ensures { result ≡ directive_named name.now }
 {
     if same_name(name, b"if") {
         Word::If
@@ -129,34 +126,11 @@ fn word(name: &[u8]) -> Word
 }
 
 /// The word that a directive begins with.
-pub fn word_of(kind: &TokenKind) -> Word
-    ensures { result ≡ word_of kind.now }
+pub fn directive_word(kind: &TokenKind) -> Word
+    ensures { result ≡ directive_word kind.now }
 {
     match kind {
-        TokenKind::Name(name) => word(name.bytes()),
+        TokenKind::Name(name) => directive_named(name.bytes()),
         _ => Word::Unknown,
-    }
-}
-
-/// The header of this name, none where it is not known.
-pub fn header_named(name: &[u8]) -> Option<HeaderId>
-    ensures { result ≡ header_named name.now }
-{
-    if same_name(name, b"string.h") {
-        Some(HeaderId::String)
-    } else if same_name(name, b"strings.h") {
-        Some(HeaderId::Strings)
-    } else if same_name(name, b"stdio.h") {
-        Some(HeaderId::Stdio)
-    } else if same_name(name, b"stdlib.h") {
-        Some(HeaderId::Stdlib)
-    } else if same_name(name, b"stddef.h") {
-        Some(HeaderId::Stddef)
-    } else if same_name(name, b"stdint.h") {
-        Some(HeaderId::Stdint)
-    } else if same_name(name, b"unistd.h") {
-        Some(HeaderId::Unistd)
-    } else {
-        None
     }
 }

@@ -1,7 +1,8 @@
 pub mod ReplacementLaws
 pub mod Totality
+pub mod Answering
+pub mod ParameterLists
 pub mod ExpansionLaws
 pub mod ItemOrigins
 pub mod ListOrigins
 pub mod OriginLaws
-pub mod HeaderLaws

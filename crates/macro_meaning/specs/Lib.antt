@@ -4,6 +4,8 @@ pub mod Replacement
 pub mod Sameness
 pub mod Definitions
 pub mod Lines
+pub mod Conditions
+pub mod Answering
 pub mod Moves
 pub mod Expansion
 pub mod Origins

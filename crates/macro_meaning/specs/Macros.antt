@@ -3,7 +3,7 @@ use Rattle.std.specs.Prelude.{ℕ, nat_eq, Bool, true, false, if◌then◌else�
 use Rattle.std.specs.Cmp.Lexicographic.{pointwise}
 use Rattle.std.specs.List.{list_any}
 use Rattle.fc_base.specs.declared.Place.{Place}
-use Rattle.c_tokens.specs.declared.Punct.TheVariants.{LeftParen, RightParen}
+use Rattle.c_tokens.specs.declared.Punct.TheVariants.{LeftParen, RightParen, Comma}
 use Rattle.c_tokens.specs.declared.Token.{Token}
 use Rattle.c_tokens.specs.declared.TokenKind.{TokenKind}
 use Rattle.c_tokens.specs.declared.TokenKind.TheVariants as kind
@@ -17,7 +17,7 @@ same_name = pointwise nat_eq
 
 -- the name is one of these
 abbrev pub has : List Name → Name → Bool
-has names name = list_any (λ other. same_name other name) names
+has names = λ name. list_any (same_name name) names
 
 abbrev pub opens : TokenKind → Bool
 opens (kind.Punct LeftParen) = true
@@ -26,6 +26,10 @@ opens _ = false
 abbrev pub closes : TokenKind → Bool
 closes (kind.Punct RightParen) = true
 closes _ = false
+
+abbrev pub is_comma : TokenKind → Bool
+is_comma (kind.Punct Comma) = true
+is_comma _ = false
 
 -- a hide set: the names that are not replaced in a token (Prosser's algorithm for C11 6.10.3.4)
 abbrev pub HideSet : Type 0
@@ -54,14 +58,14 @@ abbrev pub token : Item → Token
 token t = record { kind = t.kind; place = t.place; starts_line = t.starts_line; spaced = t.spaced }
 
 -- a part of a replacement list: a token, with whether it is spaced, or a parameter by its number from 0
-pub data Piece : Type 0 where
-  plain : TokenKind → Bool → Piece
-  parameter : ℕ → Piece
+pub data BodyPart : Type 0 where
+  plain : TokenKind → Bool → BodyPart
+  parameter : ℕ → BodyPart
 
 -- what a macro stands for: its parameters, where it has a list of them, and its replacement list
 pub record Meaning : Type 0 where
   pub parameters : Option (List Name)
-  pub body : List Piece
+  pub body : List BodyPart
 
 -- what each name stands for, none where it is no macro
 abbrev pub Macros : Type 0

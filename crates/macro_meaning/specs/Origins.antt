@@ -3,7 +3,7 @@
 use Rattle.std.specs.Prelude.{◌≡◌, Bool, List, map, Some}
 use Rattle.std.specs.List.{Contains}
 use Rattle.fc_base.specs.declared.Level.{Level}
-use Rattle.c_tokens.specs.declared.HeaderId.{HeaderId}
+use Rattle.c_headers.specs.declared.headers.HeaderId.{HeaderId}
 use Rattle.c_tokens.specs.declared.TokenKind.{TokenKind}
 use Rattle.c_tokens.specs.declared.TokenKind.TheVariants.{Header}
 use Rattle.c_tokens.specs.declared.Token.{Token}
@@ -28,6 +28,7 @@ pub data ReplacedFrom (ms : Macros) (ts : List Item) : TokenKind → Type 0 wher
 -- a token of the source is of this kind, or one in a replacement list that no line defines; or it is an inclusion
 pub data ExpandedFrom (level : Level) (ts : List Token) : TokenKind → Type 0 where
   of_source : {kind : TokenKind} → Contains (kinds ts) kind → ExpandedFrom level ts kind
-  of_header : {kind : TokenKind} (h : HeaderId) (d : Name × Meaning) → Contains (header_macros h) d → IsReplacedBy d.1 kind → ExpandedFrom level ts kind
+  of_header : {kind : TokenKind} (h : HeaderId) (d : Name × Meaning) → Contains (header_macros h) d → IsReplacedBy d.1 kind
+      → ExpandedFrom level ts kind
   of_level : {kind : TokenKind} → IsReplacedBy (fortify_source level).1 kind → ExpandedFrom level ts kind
   inclusion : (h : HeaderId) → ExpandedFrom level ts (Header h)

@@ -1,12 +1,14 @@
 -- What the first token of a list does (C11 6.10.3): it stays, or it and the arguments after it are replaced.
 use Rattle.std.specs.Prelude.{ℕ, ◌+◌, ◌-◌, ◌==◌, nat_lt, Bool, true, false, ◌&&◌, ◌||◌, if◌then◌else◌, List, [], ◌∷◌, length, drop, Option, Some, None, option_map}
-use Rattle.c_tokens.specs.declared.Punct.{Punct}
-use Rattle.c_tokens.specs.declared.Punct.TheVariants.{LeftParen, RightParen, Comma}
 use Rattle.c_tokens.specs.declared.TokenKind.{TokenKind}
 use Rattle.c_tokens.specs.declared.TokenKind.TheVariants as kind
-use Rattle.macro_meaning.specs.Macros.{Name, same_name, HideSet, Item, Piece, Meaning, Macros, Argument, written, nesting_limit, opens}
+use Rattle.macro_meaning.specs.Macros.{Name, same_name, HideSet, Item, BodyPart, Meaning, Macros, Argument, written, nesting_limit, opens, closes, is_comma}
 
 -- ---- hide sets
+
+-- What replaces a plain name has the name's own hide set and the name. What replaces a call has the names that are in the hide sets of both
+-- the macro's name and the closing bracket, and the macro's name: a call that begins in one replacement list and ends behind it is in
+-- neither alone (Prosser's algorithm; C11 6.10.3.4p4 leaves open whether such a call is nested).
 
 abbrev pub intersection : HideSet → HideSet → HideSet
 intersection a b = λ name. a name && b name
@@ -44,34 +46,21 @@ longer t = option_map (λ c. record { first = t ∷ c.first; others = c.others; 
 abbrev pub another : Option Call → Option Call
 another = option_map (λ c. record { first = []; others = written c.first ∷ c.others; close = c.close; rest = c.rest })
 
-abbrev pub closed : Item → List Item → Option Call
-closed t ts = Some (record { first = []; others = []; close = t.hide; rest = ts })
+abbrev pub ends_call : Item → List Item → Option Call
+ends_call t ts = Some (record { first = []; others = []; close = t.hide; rest = ts })
 
--- what a token does within a call: it ends it, parts two arguments, or leaves so many inner brackets open
-pub data Action : Type 0 where
-  ends : Action
-  parts : Action
-  goes : ℕ → Action
+-- how many inner brackets are open behind a token
+abbrev pub nest_after : ℕ → TokenKind → ℕ
+nest_after nest kind = if opens kind then nest + 1 else (if closes kind then nest - 1 else nest)
 
-abbrev pub punct_action : ℕ → Punct → Action
-punct_action nest LeftParen = goes (nest + 1)
-punct_action nest RightParen = if nest == 0 then ends else goes (nest - 1)
-punct_action nest Comma = if nest == 0 then parts else goes nest
-punct_action nest _ = goes nest
-
-abbrev pub action : ℕ → TokenKind → Action
-action nest (kind.Punct p) = punct_action nest p
-action nest _ = goes nest
-
-abbrev pub by_action : Item → List Item → Action → (ℕ → Option Call) → Option Call
-by_action t ts ends go = closed t ts
-by_action t ts parts go = another (go 0)
-by_action t ts (goes nest) go = longer t (go nest)
-
--- the call whose opening bracket stands before the list, or none where the closing bracket is missing
+-- The call whose opening bracket stands before the list, where so many inner brackets are open. Outside of these a closing bracket ends
+-- it and a comma parts two arguments; each other token is taken. None where the closing bracket is missing.
 unfoldable pub call : ℕ → List Item → Option Call
 call nest [] = None
-call nest (t ∷ ts) = by_action t ts (action nest t.kind) (λ n. call n ts)
+call nest (t ∷ ts) =
+    if nest == 0 && closes t.kind then ends_call t ts else (
+    if nest == 0 && is_comma t.kind then another (call 0 ts)
+    else longer t (call (nest_after nest t.kind) ts))
 
 abbrev pub arguments : Call → List Argument
 arguments c = written c.first ∷ c.others
@@ -86,19 +75,27 @@ right_number n args = if n == 0 then is_empty args else n == length args
 
 -- ---- the turn of a token
 
+-- what replaces a name or a call: the replacement list, the hide set of its tokens, and the arguments; and the tokens after it
+pub record Change : Type 0 where
+  pub body : List BodyPart
+  pub hide : HideSet
+  pub arguments : List Argument
+  pub rest : List Item
+
 pub data Turn : Type 0 where
   stays : Turn
   -- a call without its closing bracket, with another number of arguments, or too deep
   bad_call : Turn
-  -- the replacement list, the hide set of the result, the arguments, and the tokens after the name or the call
-  becomes : List Piece → HideSet → List Argument → List Item → Turn
+  becomes : Change → Turn
 
-abbrev pub called_with : Item → ℕ → List Piece → Option Call → Turn
+abbrev pub called_with : Item → ℕ → List BodyPart → Option Call → Turn
 called_with t n body None = bad_call
 called_with t n body (Some c) =
-    if right_number n (arguments c) then becomes body (with_name t.kind (intersection t.hide c.close)) (arguments c) c.rest else bad_call
+    if right_number n (arguments c)
+    then becomes (record { body = body; hide = with_name t.kind (intersection t.hide c.close); arguments = arguments c; rest = c.rest })
+    else bad_call
 
-abbrev pub called : ℕ → Item → ℕ → List Piece → List Item → Turn
+abbrev pub called : ℕ → Item → ℕ → List BodyPart → List Item → Turn
 called depth t n body ts = if nat_lt depth nesting_limit then called_with t n body (call 0 ts) else bad_call
 
 abbrev pub opens_next : List Item → Bool
@@ -106,8 +103,8 @@ opens_next [] = false
 opens_next (u ∷ us) = opens u.kind
 
 -- a macro with parameters is replaced only where an opening bracket is the next token of the list
-abbrev pub by_parameters : ℕ → Item → List Item → List Piece → Option (List Name) → Turn
-by_parameters depth t ts body None = becomes body (with_name t.kind t.hide) [] ts
+abbrev pub by_parameters : ℕ → Item → List Item → List BodyPart → Option (List Name) → Turn
+by_parameters depth t ts body None = becomes (record { body = body; hide = with_name t.kind t.hide; arguments = []; rest = ts })
 by_parameters depth t ts body (Some names) = if opens_next ts then called depth t (length names) body (drop 1 ts) else stays
 
 abbrev pub by_meaning : ℕ → Item → List Item → Option Meaning → Turn

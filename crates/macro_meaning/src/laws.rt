@@ -4,12 +4,11 @@ ghost use Rattle.std.specs.Prelude.{◌≡◌, ℕ, List, Ok, Some};
 ghost use Rattle.std.specs.List.{All};
 ghost use Rattle.fc_base.specs.declared.Level.{Level};
 ghost use Rattle.c_tokens.specs.declared.Token.{Token};
-ghost use Rattle.c_tokens.specs.declared.HeaderId.{HeaderId};
-ghost use Rattle.c_tokens.specs.Puncts.{header_name};
 ghost use Rattle.c_tokens.specs.Pieces.{IsLexedKind};
 ghost use Rattle.macro_meaning.specs.Macros.{Name, Item, Macros};
-ghost use Rattle.macro_meaning.specs.Lines.{header_named};
-ghost use Rattle.macro_meaning.specs.Replacement.{Outcome, Expands};
+ghost use Rattle.macro_meaning.specs.Definitions.{AreParameters, Parameters, parameters_of};
+ghost use Rattle.macro_meaning.specs.Conditions.{IsAnswered};
+ghost use Rattle.macro_meaning.specs.Replacement.{ReplacedList, Expands};
 ghost use Rattle.macro_meaning.specs.Expansion.{Expanded, IsExpanded};
 ghost use Rattle.macro_meaning.specs.Origins.{kinds, item_kinds, ReplacedFrom, ExpandedFrom};
 
@@ -21,8 +20,8 @@ pub fn one_expansion()
 
 /// Every list has an outcome of macro replacement, at every depth, and no other.
 pub fn one_replacement()
-    ensures some { (ms : Macros) (depth count : ℕ) (ts : List Item) → (out : Outcome) × Expands ms depth count ts out }
-    ensures one { (ms : Macros) (depth count : ℕ) (ts : List Item) (a b : Outcome)
+    ensures some { (ms : Macros) (depth count : ℕ) (ts : List Item) → (out : ReplacedList) × Expands ms depth count ts out }
+    ensures one { (ms : Macros) (depth count : ℕ) (ts : List Item) (a b : ReplacedList)
         → Expands ms depth count ts a → Expands ms depth count ts b → a ≡ b }
 {}
 
@@ -36,8 +35,14 @@ pub fn origins()
         → IsExpanded level ts (Ok out) → All (λ t. IsLexedKind t.kind) ts → All (λ t. IsLexedKind t.kind) out }
 {}
 
-/// Between angle brackets each known header has its one name, and no other text names one.
-pub fn names_of_headers()
-    ensures known { (h : HeaderId) → header_named (header_name h) ≡ Some h }
-    ensures only { (name : Name) (h : HeaderId) → header_named name ≡ Some h → name ≡ header_name h }
+/// The parameters that are read behind a macro's name are those of the relation.
+pub fn parameters()
+    ensures read { (ts : List Token) (p : Parameters) → parameters_of ts ≡ Some p → AreParameters ts p.names p.rest }
+    ensures all { (ts rest : List Token) (names : List Name) → AreParameters ts names rest
+        → parameters_of ts ≡ Some (record { names = names; rest = rest }) }
+{}
+
+/// The line of a condition has at most one line in which each `defined` is answered.
+pub fn one_answer()
+    ensures { (ms : Macros) (line a b : List Token) → IsAnswered ms line a → IsAnswered ms line b → a ≡ b }
 {}

@@ -4,5 +4,5 @@
 mod laws;
 mod words;
 
-pub use laws::{names_of_headers, one_expansion, one_replacement, origins};
-pub use words::{Group, Separator, Word};
+pub use laws::{one_answer, one_expansion, one_replacement, origins, parameters};
+pub use words::{Group, GroupState, Word};

@@ -1,9 +1,9 @@
-//! What the definitions and the code sort tokens into.
+//! The types that the definitions and the code share.
 
 use fc_base::Place;
 
 /// The word that a directive begins with.
-#[derive(Clone, Copy, Debug)]
+#[derive(Clone, Copy)]
 pub enum Word {
     If,
     Ifdef,
@@ -17,20 +17,19 @@ pub enum Word {
     Unknown,
 }
 
-/// What stands behind a parameter: the closing bracket, a comma, or neither.
-#[derive(Clone, Copy, Debug)]
-pub enum Separator {
-    Last,
-    Another,
-    Neither,
+/// How far the groups of a conditional are (C11 6.10.1p6): its group is taken; none was taken so far, so that a later one
+/// may be; or the group is skipped, and so is each later one.
+#[derive(Clone, Copy)]
+pub enum GroupState {
+    Taken,
+    Waits,
+    Over,
 }
 
-/// An open conditional, at its `if`. Its group is taken or skipped, a group of it was taken or none may be, and its
-/// `else` was there or not.
-#[derive(Clone, Copy, Debug)]
+/// An open conditional, at its `if`: how far its groups are, and whether its `else` was there.
+#[derive(Clone, Copy)]
 pub struct Group {
     pub place: Place,
-    pub is_taken: bool,
-    pub was_taken: bool,
+    pub state: GroupState,
     pub had_else: bool,
 }

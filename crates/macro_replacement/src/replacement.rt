@@ -1,22 +1,28 @@
 //! Macro replacement, argument by argument and token by token.
 
-ghost use Rattle.std.specs.Prelude.{◌≡◌, ◌+◌, ◌-◌, ◌*◌, ◌≤◌, ◌<◌, ◌++◌, IfOk, OnOk, MatchBool, vec_len, map, reverse, take, drop, length, [], ◌∷◌};
-ghost use Rattle.fc_base.specs.declared.Fault.TheVariants.{Refused};
+ghost use Rattle.std.specs.Prelude.{◌≡◌, ◌+◌, ◌-◌, ◌*◌, ◌≤◌, ◌<◌, ◌++◌, IfOk, OnOk, MatchBool, vec_len, map, reverse, take, drop, length, Some, [], ◌∷◌};
 ghost use Rattle.c_tokens.specs.Tokens.{token_limit};
 ghost use Rattle.fc_base.specs.Answers.{Answers};
-ghost use Rattle.macro_meaning.specs.Macros.{token};
+ghost use Rattle.macro_meaning.specs.Macros.{has, token};
 ghost use Rattle.macro_meaning.specs.Turns.{union};
-ghost use Rattle.macro_meaning.specs.Replacement.{Outcome, replacing, hidden, Expands, Substitutes, Readies};
-ghost use Rattle.macro_items.specs.HideSets.{held};
-ghost use Rattle.macro_items.specs.Views.{view, views, left, table, argument_view, argument_views, piece_views};
-ghost use Rattle.macro_replacement.specs.Replacing.{text_of, AddsAs, StaysAs, GivesAs};
+ghost use Rattle.macro_meaning.specs.Replacement.{ReplacedList, replacing, hidden, argument_text, Expands, Substitutes, Readies};
+ghost use Rattle.macro_items.specs.Views.{view, views, left, table, argument_view, argument_views, body_part_views};
+ghost use Rattle.macro_replacement.specs.Replacing.{AddsAs, StaysAs, GivesAs};
 
-use crate::turns::{Turn, meaning_of, turn_of};
+use crate::turns::{Replacement, Turn, meaning_of, turn_of};
 use c_tokens::{TOKEN_LIMIT, Token, TokenKind};
-use fc_base::{Fault, NoMemory, Place, Refusal, Rule};
-use macro_items::{Argument, Arguments, HideSet, Hides, Item, Macros, NESTING_LIMIT, Piece};
+use fc_base::{Fault, NoMemory, Place, Rule};
+use macro_items::{Argument, Arguments, BodyPart, HideSet, Hides, Item, Macros, NESTING_LIMIT};
 use std::alloc::{AllocError, Global};
 use std::mem;
+
+/// What replacement works with: the allocator, the macros, and how many arguments are being expanded one inside another.
+#[derive(Clone, Copy)]
+struct Setting<'m, 'a> {
+    alloc: Global,
+    macros: &'m Macros<'a>,
+    depth: u32,
+}
 
 /// Puts a token of a replacement list behind the others.
 fn push_replacing<'a>(
@@ -26,7 +32,7 @@ fn push_replacing<'a>(
     kind: &'a TokenKind,
     spaced: bool,
 ) -> Result<(), AllocError>
-    ensures { OnOk result (views new.new.items ≡ views new.old.items ++ replacing place (held hide.now) kind.now spaced ∷ []) }
+    ensures { OnOk result (views new.new.items ≡ views new.old.items ++ replacing place (has hide.now) kind.now spaced ∷ []) }
 {
     new.push(Item {
         kind,
@@ -40,7 +46,7 @@ fn push_replacing<'a>(
 
 /// The item with another hide set.
 fn with_hide<'a>(item: &Item<'a>, hide: &HideSet<'a>) -> Result<Item<'a>, AllocError>
-    ensures { IfOk result (λ x. view x ≡ record (view item.now) { hide = held hide.now }) }
+    ensures { IfOk result (λ x. view x ≡ record (view item.now) { hide = has hide.now }) }
 {
     Ok(Item {
         kind: item.kind,
@@ -52,7 +58,7 @@ fn with_hide<'a>(item: &Item<'a>, hide: &HideSet<'a>) -> Result<Item<'a>, AllocE
 }
 
 fn text<'m, 'a>(argument: &'m Argument<'a>) -> &'m [Item<'a>]
-    ensures { views result.now ≡ text_of (argument_view argument.now) }
+    ensures { views result.now ≡ argument_text (Some (argument_view argument.now)) }
 {
     match argument {
         Argument::Written(_) => &[],
@@ -67,7 +73,7 @@ fn push_hidden<'a>(
     hides: &Hides<'a>,
     tokens: &[Item<'a>],
 ) -> Result<(), AllocError>
-    ensures { OnOk result (views new.new.items ≡ views new.old.items ++ map (hidden (held hides.now.new)) (views tokens.now)) }
+    ensures { OnOk result (views new.new.items ≡ views new.old.items ++ map (hidden (has hides.now.new)) (views tokens.now)) }
 {
     let mut own = hides.old.copied()?;
     let mut both = hides.new.copied()?;
@@ -89,9 +95,9 @@ fn follow<'a>(
     own: &mut HideSet<'a>,
     both: &mut HideSet<'a>,
 ) -> Result<(), AllocError>
-    requires { held both.old ≡ union (held own.old) (held hides.now.new) }
+    requires { has both.old ≡ union (has own.old) (has hides.now.new) }
     ensures own { OnOk result (own.new ≡ hide.now) }
-    ensures both { OnOk result (held both.new ≡ union (held hide.now) (held hides.now.new)) }
+    ensures both { OnOk result (has both.new ≡ union (has hide.now) (has hides.now.new)) }
 {
     if hide.is_same(own) {
         return Ok(());
@@ -111,8 +117,8 @@ fn push_joined<'a>(
     both: &mut HideSet<'a>,
     tokens: &[Item<'a>],
 ) -> Result<(), AllocError>
-    requires { held both.old ≡ union (held own.old) (held hides.now.new) }
-    ensures { OnOk result (views new.new.items ≡ views new.old.items ++ map (hidden (held hides.now.new)) (views tokens.now)) }
+    requires { has both.old ≡ union (has own.old) (has hides.now.new) }
+    ensures { OnOk result (views new.new.items ≡ views new.old.items ++ map (hidden (has hides.now.new)) (views tokens.now)) }
 {
     for item in tokens {
         follow(alloc, hides, &item.hide, own, both)?;
@@ -124,27 +130,30 @@ fn push_joined<'a>(
 /// Expands the argument by itself, where that was not done before.
 #[cycle(replacement)]
 fn make_ready<'a>(
-    alloc: Global,
-    macros: &Macros<'a>,
+    setting: &Setting<'_, 'a>,
     args: &mut [Argument<'a>],
     k: usize,
-    depth: u32,
     count: u64,
 ) -> Result<u64, Fault>
-    requires deep { depth < NESTING_LIMIT }
+    requires deep { setting.now.depth < NESTING_LIMIT }
     requires index { k < length args.old }
-    ensures outcome { Answers (λ c. (argument_views args.new, c)) result (Readies (table macros.now) depth count (argument_views args.old) k) }
+    ensures outcome { Answers (λ c. (argument_views args.new, c)) result (Readies (table setting.now.macros.now) setting.now.depth count (argument_views args.old) k) }
     ensures len { IfOk result (λ c. length args.new ≡ length args.old) }
     ensures counts { IfOk result (λ c. count ≤ c) }
 {
-    match mem::replace(&mut args[k], Argument::Expanded(Vec::new(alloc))) {
+    match mem::replace(&mut args[k], Argument::Expanded(Vec::new(setting.alloc))) {
         Argument::Expanded(tokens) => {
             args[k] = Argument::Expanded(tokens);
             Ok(count)
         }
         Argument::Written(mut tokens) => {
             tokens.reverse();
-            let (tokens, count) = run(alloc, macros, tokens, depth + 1, count)?;
+            let inner = Setting {
+                alloc: setting.alloc,
+                macros: setting.macros,
+                depth: setting.depth + 1,
+            };
+            let (tokens, count) = run(&inner, tokens, count)?;
             args[k] = Argument::Expanded(tokens);
             Ok(count)
         }
@@ -154,29 +163,28 @@ fn make_ready<'a>(
 /// Puts the replacement list, with the arguments in the places of the parameters, behind the other tokens.
 #[cycle(replacement)]
 fn substitute<'a>(
-    alloc: Global,
-    macros: &Macros<'a>,
+    setting: &Setting<'_, 'a>,
     place: Place,
-    hides: &Hides<'a>,
+    list: &Replacement<'_, 'a>,
     args: &mut [Argument<'a>],
-    body: &[Piece<'a>],
-    depth: u32,
     from: u64,
     new: &mut Vec<Item<'a>>,
 ) -> Result<u64, Fault>
-    requires deep { 0 < length args.old → depth < NESTING_LIMIT }
-    ensures outcome { GivesAs result new.old.items new.new.items
-        (Substitutes (table macros.now) depth from place (held hides.now.new) (argument_views args.old) (piece_views body.now)) }
+    requires deep { 0 < length args.old → setting.now.depth < NESTING_LIMIT }
+    ensures outcome { GivesAs result new.old.items new.new.items (Substitutes (table setting.now.macros.now) setting.now.depth from place
+        (has list.now.hides.new) (argument_views args.old) (body_part_views list.now.body.now)) }
     ensures counts { IfOk result (λ c. from ≤ c) }
 {
     let mut count = from;
-    for piece in body {
-        match *piece {
-            Piece::Plain(kind, spaced) => push_replacing(new, place, &hides.new, kind, spaced)?,
-            Piece::Parameter(k) => {
+    for part in list.body {
+        match *part {
+            BodyPart::Plain(kind, spaced) => {
+                push_replacing(new, place, &list.hides.new, kind, spaced)?
+            }
+            BodyPart::Parameter(k) => {
                 if k < args.len() {
-                    count = make_ready(alloc, macros, args, k, depth, count)?;
-                    push_hidden(alloc, new, hides, text(&args[k]))?;
+                    count = make_ready(setting, args, k, count)?;
+                    push_hidden(setting.alloc, new, &list.hides, text(&args[k]))?;
                 }
             }
         }
@@ -187,32 +195,19 @@ fn substitute<'a>(
 /// Puts what replaces a name or a call behind the other tokens.
 #[cycle(replacement)]
 fn put<'a>(
-    alloc: Global,
-    macros: &Macros<'a>,
+    setting: &Setting<'_, 'a>,
     place: Place,
-    hides: Hides<'a>,
+    list: Replacement<'_, 'a>,
     mut args: Arguments<'a>,
-    body: &[Piece<'a>],
-    depth: u32,
     from: u64,
     new: &mut Vec<Item<'a>>,
 ) -> Result<u64, Fault>
-    requires deep { 0 < length args.items → depth < NESTING_LIMIT }
-    ensures outcome { GivesAs result new.old.items new.new.items
-        (Substitutes (table macros.now) depth from place (held hides.entry.new) (argument_views args.entry.items) (piece_views body.now)) }
+    requires deep { 0 < length args.items → setting.now.depth < NESTING_LIMIT }
+    ensures outcome { GivesAs result new.old.items new.new.items (Substitutes (table setting.now.macros.now) setting.now.depth from place
+        (has list.entry.hides.new) (argument_views args.entry.items) (body_part_views list.entry.body.now)) }
     ensures counts { IfOk result (λ c. from ≤ c) }
 {
-    substitute(
-        alloc,
-        macros,
-        place,
-        &hides,
-        args.as_mut_slice(),
-        body,
-        depth,
-        from,
-        new,
-    )
+    substitute(setting, place, &list, args.as_mut_slice(), from, new)
 }
 
 /// Reverses the list from there on.
@@ -226,32 +221,28 @@ fn reverse_from(list: &mut Vec<Item<'_>>, start: usize)
 /// Whether the token stays. Where it does not, what it becomes is put in front of what is left.
 #[cycle(replacement)]
 fn stays<'a>(
-    alloc: Global,
-    macros: &Macros<'a>,
-    depth: u32,
+    setting: &Setting<'_, 'a>,
     item: &Item<'a>,
     pending: &mut Vec<Item<'a>>,
     count: &mut u64,
 ) -> Result<bool, Fault>
-    requires deep { depth ≤ NESTING_LIMIT }
-    ensures outcome { StaysAs (table macros.now) depth (view item.now) count.old (left pending.old.items) result count.new (left pending.new.items) }
+    requires deep { setting.now.depth ≤ NESTING_LIMIT }
+    ensures outcome { StaysAs (table setting.now.macros.now) setting.now.depth (view item.now) count.old (left pending.old.items) result count.new (left pending.new.items) }
     ensures counts { OnOk result (count.old ≤ count.new) }
     ensures shorter { OnOk result (2 * (token_limit - count.new) + vec_len pending.new ≤ 2 * (token_limit - count.old) + vec_len pending.old) }
 {
-    let Some(meaning) = meaning_of(macros, item) else {
+    let Some(meaning) = meaning_of(setting.macros, item) else {
         return Ok(true);
     };
-    match turn_of(alloc, meaning, depth, item, pending)? {
+    match turn_of(setting.alloc, meaning, setting.depth, item, pending)? {
         Turn::Stays => Ok(true),
-        Turn::BadCall => refuse(Rule::MacroArguments, item.place),
-        Turn::Becomes { body, hides, args } => {
+        Turn::BadCall => Err(Fault::refused(Rule::MacroArguments, item.place)),
+        Turn::Becomes { list, args } => {
             let start = pending.len();
-            let now = put(
-                alloc, macros, item.place, hides, args, body, depth, *count, pending,
-            )?;
+            let now = put(setting, item.place, list, args, *count, pending)?;
             let len = (pending.len() - start) as u64;
             if passes_limit(now, len) {
-                return refuse(Rule::LimitTokens, item.place);
+                return Err(Fault::refused(Rule::LimitTokens, item.place));
             }
             *count = now + len;
             reverse_from(pending, start);
@@ -263,21 +254,19 @@ fn stays<'a>(
 /// Expands the list whose next token is the last of `pending`, and puts the result into the empty list `done`.
 #[cycle(replacement)]
 fn expand_into<'a>(
-    alloc: Global,
-    macros: &Macros<'a>,
+    setting: &Setting<'_, 'a>,
     pending: &mut Vec<Item<'a>>,
     done: &mut Vec<Item<'a>>,
-    depth: u32,
     from: u64,
 ) -> Result<u64, Fault>
-    requires deep { depth ≤ NESTING_LIMIT }
+    requires deep { setting.now.depth ≤ NESTING_LIMIT }
     requires empty { done.old.items ≡ [] }
-    ensures outcome { Answers (λ c. (views done.new.items, c)) result (Expands (table macros.now) depth from (left pending.old.items)) }
+    ensures outcome { Answers (λ c. (views done.new.items, c)) result (Expands (table setting.now.macros.now) setting.now.depth from (left pending.old.items)) }
     ensures counts { IfOk result (λ c. from ≤ c) }
 {
     let mut count = from;
     while let Some(item) = pending.pop() {
-        if stays(alloc, macros, depth, &item, pending, &mut count)? {
+        if stays(setting, &item, pending, &mut count)? {
             done.push(item)?;
         }
     }
@@ -287,18 +276,16 @@ fn expand_into<'a>(
 /// Expands the list whose next token is the last of `pending`.
 #[cycle(replacement)]
 fn run<'a>(
-    alloc: Global,
-    macros: &Macros<'a>,
+    setting: &Setting<'_, 'a>,
     mut pending: Vec<Item<'a>>,
-    depth: u32,
     from: u64,
 ) -> Result<(Vec<Item<'a>>, u64), Fault>
-    requires deep { depth ≤ NESTING_LIMIT }
-    ensures outcome { Answers (λ r. (views r.0.items, r.1)) result (Expands (table macros.now) depth from (left pending.entry.items)) }
+    requires deep { setting.now.depth ≤ NESTING_LIMIT }
+    ensures outcome { Answers (λ r. (views r.0.items, r.1)) result (Expands (table setting.now.macros.now) setting.now.depth from (left pending.entry.items)) }
     ensures counts { IfOk result (λ r. from ≤ r.1) }
 {
-    let mut done = Vec::new(alloc);
-    let count = expand_into(alloc, macros, &mut pending, &mut done, depth, from)?;
+    let mut done = Vec::new(setting.alloc);
+    let count = expand_into(setting, &mut pending, &mut done, from)?;
     Ok((done, count))
 }
 
@@ -307,12 +294,6 @@ fn passes_limit(count: u64, more: u64) -> bool
     ensures { MatchBool result (token_limit < count + more) (count + more ≤ token_limit) }
 {
     count > TOKEN_LIMIT || more > TOKEN_LIMIT - count
-}
-
-fn refuse<T>(rule: Rule, place: Place) -> Result<T, Fault>
-    ensures { result ≡ Err (Refused (record { rule = rule; place = place })) }
-{
-    Err(Fault::Refused(Refusal { rule, place }))
 }
 
 /// The list with its macros replaced, and the count of tokens after it.
@@ -327,10 +308,15 @@ pub fn replace<'a>(
     ensures counts { IfOk result (λ r. count ≤ r.1) }
     // The list has no other outcome.
     ensures only { Answers (λ r. (views r.0.items, r.1)) result
-        (λ out. (other : Outcome) → Expands (table macros.now) 0 count (views tokens.entry.items) other → other ≡ out) }
+        (λ out. (other : ReplacedList) → Expands (table macros.now) 0 count (views tokens.entry.items) other → other ≡ out) }
 {
     tokens.reverse();
-    run(alloc, macros, tokens, 0, count)
+    let setting = Setting {
+        alloc,
+        macros,
+        depth: 0,
+    };
+    run(&setting, tokens, count)
 }
 
 /// Puts a token behind those that are done.
@@ -351,9 +337,14 @@ fn append_left<'a>(
 ) -> Result<u64, Fault>
     ensures { AddsAs result (table macros.now) from (left pending.old.items) done.old.items done.new.items }
 {
+    let setting = Setting {
+        alloc,
+        macros,
+        depth: 0,
+    };
     let mut count = from;
     while let Some(item) = pending.pop() {
-        if stays(alloc, macros, 0, &item, pending, &mut count)? {
+        if stays(&setting, &item, pending, &mut count)? {
             push_token(alloc, &item, done)?;
         }
     }

@@ -2,18 +2,25 @@
 
 ghost use Rattle.std.specs.Prelude.{◌≡◌, ◌≤◌, ◌<◌, ◌+◌, IfOk, MatchBool, option_map, vec_len, drop, true, Some};
 ghost use Rattle.macro_meaning.specs.Turns.{intersection, with_name, meaning_of, opens_next, called_with, call, by_meaning};
-ghost use Rattle.macro_items.specs.HideSets.{held};
-ghost use Rattle.macro_items.specs.Views.{left, view, meaning_view, piece_views, table};
+ghost use Rattle.macro_meaning.specs.Macros.{has};
+ghost use Rattle.macro_items.specs.Views.{left, view, meaning_view, body_part_views, table};
 ghost use Rattle.macro_replacement.specs.Turning.{TurnsAs, IsWithin};
 
-use c_tokens::{Punct, TokenKind};
+use c_tokens::TokenKind;
 use fc_base::both;
 use macro_items::{
-    Arguments, HideSet, Hides, Item, Macro, Macros, NESTING_LIMIT, Piece, find, gather,
+    Arguments, BodyPart, HideSet, Hides, Item, Macro, Macros, NESTING_LIMIT, find, gather, opens,
     right_number,
 };
 use smallvec::SmallVec;
 use std::alloc::{AllocError, Global};
+
+/// A replacement list, with the hide sets of what it replaces and of its tokens.
+#[derive(Drop)]
+pub struct Replacement<'m, 'a> {
+    pub body: &'m [BodyPart<'a>],
+    pub hides: Hides<'a>,
+}
 
 /// What a token does.
 pub enum Turn<'m, 'a> {
@@ -21,10 +28,9 @@ pub enum Turn<'m, 'a> {
     Stays,
     /// It names a macro whose call is refused.
     BadCall,
-    /// This replaces it, with the arguments in the places of the parameters.
+    /// This list replaces it, with the arguments in the places of the parameters.
     Becomes {
-        body: &'m [Piece<'a>],
-        hides: Hides<'a>,
+        list: Replacement<'m, 'a>,
         args: Arguments<'a>,
     },
 }
@@ -47,17 +53,14 @@ fn opens_next(pending: &[Item<'_>]) -> bool
     ensures { result ≡ opens_next (left pending.now) }
 {
     match pending {
-        [.., next] => match next.kind {
-            TokenKind::Punct(Punct::LeftParen) => true,
-            _ => false,
-        },
+        [.., next] => opens(next.kind),
         [] => false,
     }
 }
 
 /// The hide sets of a name that is replaced alone.
 fn hides_of_name<'a>(alloc: Global, name: &Item<'a>) -> Result<Hides<'a>, AllocError>
-    ensures { IfOk result (λ h. held h.new ≡ with_name name.now.kind.now (held name.now.hide)) }
+    ensures { IfOk result (λ h. has h.new ≡ with_name name.now.kind.now (has name.now.hide)) }
 {
     Hides::of(alloc, name.hide.copied()?, name.kind)
 }
@@ -68,7 +71,7 @@ fn hides_of_call<'a>(
     name: &Item<'a>,
     close: &HideSet<'a>,
 ) -> Result<Hides<'a>, AllocError>
-    ensures { IfOk result (λ h. held h.new ≡ with_name name.now.kind.now (intersection (held name.now.hide) (held close.now))) }
+    ensures { IfOk result (λ h. has h.new ≡ with_name name.now.kind.now (intersection (has name.now.hide) (has close.now))) }
 {
     let hide = name.hide.intersection(alloc, close)?;
     Hides::of(alloc, hide, name.kind)
@@ -86,12 +89,12 @@ fn called<'m, 'a>(
     alloc: Global,
     item: &Item<'a>,
     n: usize,
-    body: &'m [Piece<'a>],
+    body: &'m [BodyPart<'a>],
     pending: &mut Vec<Item<'a>>,
 ) -> Result<Turn<'m, 'a>, AllocError>
     requires { opens_next (left pending.old.items) ≡ true }
     ensures found { IfOk result (λ t. TurnsAs t (left pending.old.items) (left pending.new.items)
-        (called_with (view item.now) n (piece_views body.now) (call 0 (drop 1 (left pending.old.items))))) }
+        (called_with (view item.now) n (body_part_views body.now) (call 0 (drop 1 (left pending.old.items))))) }
     ensures shorter { vec_len pending.new + 1 ≤ vec_len pending.old }
 {
     drop(pending.pop());
@@ -105,8 +108,7 @@ fn called<'m, 'a>(
             let hides = hides_of_call(alloc, item, &call.close);
             let (call, hides) = both(call, hides)?;
             Ok(Turn::Becomes {
-                body,
-                hides,
+                list: Replacement { body, hides },
                 args: call.args,
             })
         }
@@ -127,11 +129,14 @@ pub fn turn_of<'m, 'a>(
     ensures within { IfOk result (λ t. IsWithin depth NESTING_LIMIT t) }
 {
     match &meaning.parameters {
-        None => Ok(Turn::Becomes {
-            body: &meaning.body,
-            hides: hides_of_name(alloc, item)?,
-            args: SmallVec::new(alloc),
-        }),
+        None => {
+            let body = &meaning.body;
+            let hides = hides_of_name(alloc, item)?;
+            Ok(Turn::Becomes {
+                list: Replacement { body, hides },
+                args: SmallVec::new(alloc),
+            })
+        }
         Some(parameters) => {
             if !opens_next(pending) {
                 return Ok(Turn::Stays);

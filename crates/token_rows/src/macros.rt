@@ -110,6 +110,9 @@ const LISTS: &[(&[u8], &[u8])] = &[
         b"f(1) 1 g(2) 2",
     ),
     (b"#define f(a) a*g\n#define g(a) f(a)\nf(2)(9)", b"2*9*g"),
+    // Preprocessors differ here (C11 6.10.3.4p4): of a call that ends behind the replacement list it began in, only the names that are
+    // hidden in its closing bracket too stay hidden.
+    (b"#define f(x) x g\n#define g f(f(2)\ng )", b"2 g f(f(2)"),
     (b"#define f(x) x f\nf(1)(2)", b"1 f(2)"),
     (b"#define f(x) f\nf(1)(2) f(3)", b"f(2) f"),
     // A name that was not replaced stays so where it is looked at again.

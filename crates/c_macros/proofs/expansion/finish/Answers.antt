@@ -6,4 +6,4 @@ pub returns-then-is_empty : goal.returns-then-is_empty
 returns-then-is_empty c = none_open c.args.groups.now (no_group c.args.groups.now (sym c.if-is_empty.ensures))
 
 pub returns-else-is_empty : goal.returns-else-is_empty
-returns-else-is_empty c = rw c.refuse.ensures (first_open c.args.groups.now _ (some_group c.args.groups.now (sym c.if-is_empty.ensures)))
+returns-else-is_empty c = rw c.refused.ensures (first_open c.args.groups.now _ (some_group c.args.groups.now (sym c.if-is_empty.ensures)))

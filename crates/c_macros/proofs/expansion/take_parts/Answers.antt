@@ -20,7 +20,8 @@ parts-preserved-in-Text c =
     let f = rw c.after-rest.ensures at c.in-Text.ensures.is in
     let k = carried _ _ _ _ _ _ _ c.parts.invariant.owed _ _ _ (rw c.after-rest.ensures at c.in_ok-count-in-Text.ensures) in record {
       within = omega (arith, f.2, length-drop c.parts.at c.args.source.now);
-      owed = rw (← drop-drop c.in-Text.n c.parts.at c.args.source.now) (rw (text_rest (drop c.parts.at c.args.source.now) c.in-Text.n f) at k);
+      owed = rw (← drop-drop c.in-Text.n c.parts.at c.args.source.now)
+          (rw (text_rest (drop c.parts.at c.args.source.now) c.in-Text.n f) at k);
     }
 
 pub returns-in_err-count-in-Line : goal.returns-in_err-count-in-Line
@@ -33,5 +34,6 @@ parts-preserved c =
     let f = rw c.after-rest.ensures at c.in-Line.ensures.is in
     let k = carried _ _ _ _ _ _ _ c.parts.invariant.owed _ _ _ (rw c.after-rest.ensures at c.in_ok-count-in-Line.ensures) in record {
       within = omega (arith, f.3, length-drop c.parts.at c.args.source.now);
-      owed = rw (← drop-drop (c.in-Line.n + 1) c.parts.at c.args.source.now) (rw (line_rest (drop c.parts.at c.args.source.now) c.in-Line.n f) at k);
+      owed = rw (← drop-drop (c.in-Line.n + 1) c.parts.at c.args.source.now)
+          (rw (line_rest (drop c.parts.at c.args.source.now) c.in-Line.n f) at k);
     }

@@ -5,11 +5,13 @@ use Rattle.macro_conditions.specs.Machine.{decision}
 use Rattle.macro_conditions.proofs.Decisions.{decides, decision_is}
 use Rattle.macro_conditions.proofs.machine.condition.Goals as goal
 
-decides_as : {E : Type 0} (line : List TokenKind) (r : Result (Option Bool) E) → IfOk r (λ d. d ≡ decision line) → IfOk r (λ d. Decides line d)
+decides_as : {E : Type 0} (line : List TokenKind) (r : Result (Option Bool) E) → IfOk r (λ d. d ≡ decision line)
+    → IfOk r (λ d. Decides line d)
 decides_as line (Ok d) e = subst (λ (o : Option Bool). Decides line o) (sym e) (decides line)
 decides_as line (Err x) e = tt
 
-only_as : {E : Type 0} (line : List TokenKind) (r : Result (Option Bool) E) → IfOk r (λ d. d ≡ decision line) → IfOk r (λ d. (other : Option Bool) → Decides line other → other ≡ d)
+only_as : {E : Type 0} (line : List TokenKind) (r : Result (Option Bool) E) → IfOk r (λ d. d ≡ decision line)
+    → IfOk r (λ d. (other : Option Bool) → Decides line other → other ≡ d)
 only_as line (Ok d) e = λ other x. decision_is x ∙ sym e
 only_as line (Err x) e = tt
 

@@ -9,4 +9,5 @@ returns-in-None c =
     stops c.args.line.now c.loop-kind.kind-index c.kind-item.result (phase_view c.loop-kind.phase (frames c.loop-kind.stack.items)) c.loop-kind-test.true c.kind-item.is s c.loop-kind.invariant
 
 pub returns : goal.returns
-returns c = c.holds.ensures ∙ ends c.args.line.now c.loop-kind.kind-index (phase_view c.loop-kind.phase (frames c.loop-kind.stack.items)) c.finish.result (omega arith) c.finish.ensures c.loop-kind.invariant
+returns c = c.holds.ensures
+    ∙ ends c.args.line.now c.loop-kind.kind-index (phase_view c.loop-kind.phase (frames c.loop-kind.stack.items)) c.finish.result (omega arith) c.finish.ensures c.loop-kind.invariant

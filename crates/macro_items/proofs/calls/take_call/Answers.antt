@@ -13,7 +13,8 @@ loop-item-init c = record {
 
 pub returns-in-Ends-clause-found : goal.returns-in-Ends-clause-found
 returns-in-Ends-clause-found c =
-    ends_here _ _ c.loop-item.nest (view c.in-Some.item) _ _ _ (left_pop _ _ _ c.in-Some.ensures.items) c.in-Ends.ensures.is c.loop-item.invariant.same
+    ends_here _ _ c.loop-item.nest (view c.in-Some.item) _ _ _
+    (left_pop _ _ _ c.in-Some.ensures.items) c.in-Ends.ensures.is c.loop-item.invariant.same
 
 pub loop-item-preserved-in_ok-push-in-Parts : goal.loop-item-preserved-in_ok-push-in-Parts
 loop-item-preserved-in_ok-push-in-Parts c = record {
@@ -31,9 +32,12 @@ loop-item-preserved-in_ok-push-in-Parts-2 c = record {
 
 pub loop-item-preserved : goal.loop-item-preserved
 loop-item-preserved c = record {
-  same = rw (c.in_ok-push-in-Goes.ensures.items, map_push) (goes_on _ _ c.loop-item.nest c.in-Goes.now (view c.in-Some.item) _ _ _ (left_pop _ _ _ c.in-Some.ensures.items) c.in-Goes.ensures.is c.loop-item.invariant.same);
+  same = rw (c.in_ok-push-in-Goes.ensures.items, map_push)
+      (goes_on _ _ c.loop-item.nest c.in-Goes.now (view c.in-Some.item) _ _ _ (left_pop _ _ _ c.in-Some.ensures.items) c.in-Goes.ensures.is c.loop-item.invariant.same);
   room = omega (arith, c.in-Goes.ensures.near, c.in-Some.ensures.cases);
 }
 
 pub returns-clause-found : goal.returns-clause-found
-returns-clause-found c = let e = rw c.in_default.is at c.pop.ensures.cases in misses _ _ c.loop-item.nest _ _ (left_none c.loop-item.pending.items (omega arith)) c.loop-item.invariant.same
+returns-clause-found c =
+    let e = rw c.in_default.is at c.pop.ensures.cases in misses _ _ c.loop-item.nest _ _
+    (left_none c.loop-item.pending.items (omega arith)) c.loop-item.invariant.same

@@ -6,7 +6,8 @@ use Rattle.macro_items.proofs.calls.take_call.Given as goal
 
 abbrev pub invariant-loop-item : goal.invariant-loop-item
 invariant-loop-item l = record {
-  same : seen (argument_views l.args.items) (views l.current.items) (call l.nest (left l.pending.items)) ≡ whole (call 0 (left l.initial.pending.items));
+  same : seen (argument_views l.args.items) (views l.current.items) (call l.nest (left l.pending.items)) ≡ whole
+      (call 0 (left l.initial.pending.items));
   room : l.nest + vec_len l.pending ≤ vec_len l.initial.pending;
 }
 
