@@ -1,10 +1,10 @@
 -- A typed tree whose numbers name what is there and whose counts are those of its bodies. This project's own.
-use Rattle.std.specs.Prelude.{◌≡◌, ℕ, ◌+◌, ◌<◌, ◌≤◌, ◌⊎◌, ◌↔◌, ⊤, Bool, true, false, List, length, All, slice_get, Some, IfSome, IsSome, IsSomeAnd, IsTrue}
+use Rattle.std.specs.Prelude.{◌≡◌, ℕ, ◌+◌, ◌<◌, ◌≤◌, ◌⊎◌, ◌↔◌, ⊤, Bool, true, false, List, length, All, slice_get, Some, IfSome, IsSomeAnd, IsTrue}
 use Rattle.std.specs.Option.{option_map}
 use Rattle.c_layout.specs.declared.types.CType.{CType, out-CType, every-CType}
 use Rattle.c_layout.specs.declared.types.CType.TheOpen.{CType-F}
 use Rattle.c_layout.specs.declared.tags.TagDef.{TagDef}
-use Rattle.c_layout.specs.Library.{row_of}
+use Rattle.c_headers.specs.Headers.{HasHeader}
 use Rattle.c_tree.specs.declared.programs.DataDef.{DataDef}
 use Rattle.c_tree.specs.declared.programs.FnDef.{FnDef}
 use Rattle.c_tree.specs.declared.programs.Link.{Link}
@@ -40,11 +40,9 @@ module _ (tags : List TagDef) where
   HasMember member (CType-F.Union tag) = IsSomeAnd (slice_get tags tag) (λ d. member < length d.members)
   HasMember member _ = ⊥
 
-  -- the same of what a pointer points to, or of the elements of an array that is used as one
+  -- the same of what a pointer points to
   abbrev pub PointsToMember : ℕ → CType-F CType → Type 0
   PointsToMember member (CType-F.Ptr of) = HasMember member (out-CType of)
-  PointsToMember member (CType-F.Array of count) = HasMember member (out-CType of)
-  PointsToMember member (CType-F.OpenArray of) = HasMember member (out-CType of)
   PointsToMember member _ = ⊥
 
   abbrev pub IsMemberThere : Bool → ℕ → CType → Type 0
@@ -55,7 +53,7 @@ module _ (tags : List TagDef) where
     -- a function of the file, or one that a header declares
     abbrev pub IsCalleeThere : Callee → Type 0
     IsCalleeThere (Function number) = IsThere functions number
-    IsCalleeThere (Library f) = IsSome (row_of f).header
+    IsCalleeThere (Library f) = HasHeader f
 
     abbrev pub KindNames : TypedKind-F TypedKind TypedExpr → Type 0
     KindNames (TypedKind-F.Local number) = IsThere locals number

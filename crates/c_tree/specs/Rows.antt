@@ -1,8 +1,8 @@
 -- Two functions whose counts are worked by hand.
-use Rattle.std.specs.Prelude.{◌≡◌, ℕ, Bool, true, false, List, [], ◌∷◌, codes, Some, None}
+use Rattle.std.specs.Prelude.{◌≡◌, ℕ, Bool, true, false, List, [], ◌∷◌, codes, Option, Some, None}
 use Rattle.fc_base.specs.declared.levels.Width.TheVariants.{W1, W4}
 use Rattle.fc_base.specs.declared.refusals.Place.{Place}
-use Rattle.c_layout.specs.declared.library.LibFn.TheVariants.{Memset}
+use Rattle.c_library.specs.declared.functions.LibFn.TheVariants.{Memset}
 use Rattle.c_layout.specs.declared.types.CType.{CType}
 use Rattle.c_layout.specs.declared.types.CType.TheVariants.{Int, Array}
 use Rattle.c_tree.specs.declared.operators.AssignOp.TheVariants as assign
@@ -13,6 +13,8 @@ use Rattle.c_tree.specs.declared.programs.FnDef.{FnDef}
 use Rattle.c_tree.specs.declared.programs.LocalDef.{LocalDef}
 use Rattle.c_tree.specs.declared.typed.Callee.TheVariants.{Function, Library}
 use Rattle.c_tree.specs.declared.typed.TypedExpr.{TypedExpr}
+use Rattle.c_tree.specs.declared.typed.TypedDeclare.{TypedDeclare}
+use Rattle.c_tree.specs.declared.typed.TypedInit.{TypedInit}
 use Rattle.c_tree.specs.declared.typed.TypedInit.TheVariants as init
 use Rattle.c_tree.specs.declared.typed.TypedForHead.TheVariants as head
 use Rattle.c_tree.specs.declared.typed.TypedKind.{TypedKind}
@@ -36,6 +38,9 @@ of_int kind = record { kind = kind; ctype = int; place = start }
 abbrev pub variable : CType → Bool → LocalDef
 variable ctype in_register = record { name = codes "v"; ctype = ctype; in_register = in_register }
 
+abbrev pub declared : ℕ → Option TypedInit → TypedDeclare
+declared local init = record { local = local; init = init; place = start }
+
 abbrev pub function : Bool → List LocalDef → Counts → TypedStmt → FnDef
 function inlined locals counts body =
     record { name = codes "f"; params = []; result = int; inlined = inlined; alloc_size = None; locals = locals; counts = counts; body = body }
@@ -47,7 +52,7 @@ fill = s.Expr (Some (of_int (e.Call (Library Memset)
 
 abbrev pub form : FnDef
 form = function false (variable (Array (Int W1 true true false) 8) false ∷ []) (counted 9 1 0 16)
-    (s.Block (s.Declare 0 None start ∷ fill ∷ s.Return (Some (of_int (e.Number 3))) start ∷ []) start)
+    (s.Block (s.Declare (declared 0 None) ∷ fill ∷ s.Return (Some (of_int (e.Number 3))) start ∷ []) start)
 
 -- an inline function that is known by its counts
 abbrev pub inlined : FnDef
@@ -62,7 +67,7 @@ labelled =
     s.Break start ∷ s.Default start ∷ s.Expr None start ∷ []
 
 abbrev pub repeated : TypedStmt
-repeated = s.For (head.Variables (s.Declare 1 (Some (init.Expr (of_int (e.Number 0)))) start ∷ []))
+repeated = s.For (head.Variables (declared 1 (Some (init.Expr 0 (of_int (e.Number 0)))) ∷ []))
     (Some (of_int (e.Binary binary.Less (of_int (e.Local 1)) (of_int (e.Local 0)))))
     (Some (of_int (e.Postfix postfix.Increment (of_int (e.Local 1)))))
     (s.Switch (of_int (e.Local 1)) labelled start) start

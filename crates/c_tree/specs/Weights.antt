@@ -1,5 +1,5 @@
 -- The weight and frame of a function, and the counts that they are read from. This project's own.
-use Rattle.std.specs.Prelude.{ℕ, ◌+◌, ◌*◌, ◌^◌, min, Bool, true, false, if◌then◌else◌, List, [], ◌∷◌, count_by, sum_by, slice_get, Option, None, Some}
+use Rattle.std.specs.Prelude.{ℕ, ◌+◌, ◌*◌, ◌^◌, min, Bool, true, false, if◌then◌else◌, List, [], ◌∷◌, count_by, sum_by, map, slice_get, Option, None, Some}
 use Rattle.std.specs.Option.{option_map, option_map_or}
 use Rattle.c_layout.specs.declared.tags.TagDef.{TagDef}
 use Rattle.c_layout.specs.Layouts.{aligned, layout}
@@ -15,7 +15,10 @@ use Rattle.c_tree.specs.declared.typed.TypedInit.{TypedInit, fold-TypedInit}
 use Rattle.c_tree.specs.declared.typed.TypedStmt.{TypedStmt, fold-TypedStmt}
 use Rattle.c_tree.specs.declared.typed.TypedKind.TheOpen.{TypedKind-F, TypedExpr-F}
 use Rattle.c_tree.specs.declared.typed.TypedInit.TheOpen.{TypedInit-F}
-use Rattle.c_tree.specs.declared.typed.TypedForHead.TheOpen.{TypedForHead-F, TypedStmt-F}
+use Rattle.c_tree.specs.declared.typed.TypedDeclare.{TypedDeclare}
+use Rattle.c_tree.specs.declared.typed.TypedForHead.{TypedForHead}
+use Rattle.c_tree.specs.declared.typed.TypedForHead.TheVariants as head
+use Rattle.c_tree.specs.declared.typed.TypedStmt.TheOpen.{TypedStmt-F}
 
 -- where sums stop
 abbrev pub stop : ℕ
@@ -88,7 +91,7 @@ module _ (functions : List FnDef) where
 
   -- An initialiser that is an expression is one node with it.
   abbrev pub init_layer : TypedInit-F Counts → Counts
-  init_layer (TypedInit-F.Expr e) = expr_counts e
+  init_layer (TypedInit-F.Expr at value) = expr_counts value
   init_layer (TypedInit-F.List items place) = both one_node (total items)
 
   abbrev pub init_counts : TypedInit → Counts
@@ -97,19 +100,22 @@ module _ (functions : List FnDef) where
   abbrev pub optional_expr : Option TypedExpr → Counts
   optional_expr e = optional (option_map expr_counts e)
 
-  abbrev pub head_layer : TypedForHead-F Counts Counts → Counts
-  head_layer (TypedForHead-F.Evaluate e) = optional_expr e
-  head_layer (TypedForHead-F.Variables variables) = total variables
-
   -- A variable's declaration counts as its declarator and its initialiser.
-  abbrev pub stmt_layer : TypedStmt-F Counts Counts → Counts
+  abbrev pub declare_counts : TypedDeclare → Counts
+  declare_counts d = both one_node (optional (option_map init_counts d.init))
+
+  abbrev pub head_counts : TypedForHead → Counts
+  head_counts (head.Evaluate e) = optional_expr e
+  head_counts (head.Variables variables) = total (map declare_counts variables)
+
+  abbrev pub stmt_layer : TypedStmt-F Counts → Counts
   stmt_layer (TypedStmt-F.Block items place) = both one_node (total items)
-  stmt_layer (TypedStmt-F.Declare local init place) = both one_node (optional (option_map init_counts init))
+  stmt_layer (TypedStmt-F.Declare d) = declare_counts d
   stmt_layer (TypedStmt-F.Expr e place) = both one_node (optional_expr e)
   stmt_layer (TypedStmt-F.If test then_part else_part place) = total (one_join ∷ expr_counts test ∷ then_part ∷ optional else_part ∷ [])
   stmt_layer (TypedStmt-F.While test body place) = total (one_join ∷ expr_counts test ∷ body ∷ [])
   stmt_layer (TypedStmt-F.Do body test place) = total (one_join ∷ body ∷ expr_counts test ∷ [])
-  stmt_layer (TypedStmt-F.For head test step body place) = total (one_join ∷ head ∷ optional_expr test ∷ optional_expr step ∷ body ∷ [])
+  stmt_layer (TypedStmt-F.For head test step body place) = total (one_join ∷ head_counts head ∷ optional_expr test ∷ optional_expr step ∷ body ∷ [])
   stmt_layer (TypedStmt-F.Switch subject items place) = total (one_join ∷ expr_counts subject ∷ items)
   stmt_layer (TypedStmt-F.Break place) = one_join
   stmt_layer (TypedStmt-F.Continue place) = one_join
@@ -118,11 +124,11 @@ module _ (functions : List FnDef) where
   stmt_layer (TypedStmt-F.Default place) = one_join
 
   abbrev pub stmt_counts : TypedStmt → Counts
-  stmt_counts = fold-TypedStmt Counts Counts head_layer stmt_layer
+  stmt_counts = fold-TypedStmt Counts stmt_layer
 
--- the bytes of a variable in a frame: its size and one more, up to a multiple of 16
+-- the bytes of a variable in a frame: its size and one more, up to a multiple of 16; none where its type has no size
 abbrev pub frame_room : List TagDef → LocalDef → ℕ
-frame_room tags local = if local.in_register then 0 else aligned (option_map_or (λ l. l.size) (layout tags local.ctype) 0 + 1) 16
+frame_room tags local = if local.in_register then 0 else option_map_or (λ l. aligned (l.size + 1) 16) (layout tags local.ctype) 0
 
 abbrev pub local_counts : List TagDef → List LocalDef → Counts
 local_counts tags locals = record { nodes = 0; joins = 0; vars = count_by (λ l. l.in_register) locals; frame = sum_by (frame_room tags) locals }

@@ -21,5 +21,5 @@ pub use nodes::{
 pub use operators::{AssignOp, BinaryOp, PostfixOp, PrefixOp};
 pub use programs::{Counts, DataDef, FnDef, Link, LocalDef, TypedTree};
 pub use statements::{ForHead, Init, InitDeclarator, Stmt};
-pub use typed::{Callee, TypedExpr, TypedForHead, TypedInit, TypedKind, TypedStmt};
+pub use typed::{Callee, TypedDeclare, TypedExpr, TypedForHead, TypedInit, TypedKind, TypedStmt};
 pub use weights::{frame_of, weight_of};

@@ -94,7 +94,7 @@ pub struct Identifier {
 }
 
 /// A word of a basic type (C11 6.7.2).
-#[derive(Clone, Copy, Debug, PartialEq, Eq)]
+#[derive(Clone, Copy, PartialEq, Eq)]
 pub enum BasicWord {
     Void,
     Char,
@@ -106,7 +106,7 @@ pub enum BasicWord {
 }
 
 /// `struct` or `union`.
-#[derive(Clone, Copy, Debug, PartialEq, Eq)]
+#[derive(Clone, Copy, PartialEq, Eq)]
 pub enum Aggregate {
     Struct,
     Union,
@@ -195,7 +195,7 @@ pub struct Enumerator {
 }
 
 /// A word before a direct declarator. The first of them is a star.
-#[derive(Clone, Copy, Debug, PartialEq, Eq)]
+#[derive(Clone, Copy, PartialEq, Eq)]
 pub enum PointerWord {
     /// `*`
     Star,

@@ -1,7 +1,7 @@
 //! The operators of expressions (C11 6.5), but for `sizeof` and those that have a node of their own.
 
 /// An assignment operator (C11 6.5.16): the plain one, or the one that names the operator it applies first.
-#[derive(Clone, Copy, Debug, PartialEq, Eq)]
+#[derive(Clone, Copy, PartialEq, Eq)]
 pub enum AssignOp {
     /// `=`
     Plain,
@@ -28,7 +28,7 @@ pub enum AssignOp {
 }
 
 /// A binary operator that groups to the left (C11 6.5.5 to 6.5.14), the loosest first.
-#[derive(Clone, Copy, Debug, PartialEq, Eq)]
+#[derive(Clone, Copy, PartialEq, Eq)]
 pub enum BinaryOp {
     /// `||`
     LogicalOr,
@@ -69,7 +69,7 @@ pub enum BinaryOp {
 }
 
 /// A unary operator before its operand (C11 6.5.3).
-#[derive(Clone, Copy, Debug, PartialEq, Eq)]
+#[derive(Clone, Copy, PartialEq, Eq)]
 pub enum PrefixOp {
     /// `++`
     Increment,
@@ -90,7 +90,7 @@ pub enum PrefixOp {
 }
 
 /// An operator behind its operand (C11 6.5.2.4).
-#[derive(Clone, Copy, Debug, PartialEq, Eq)]
+#[derive(Clone, Copy, PartialEq, Eq)]
 pub enum PostfixOp {
     /// `++`
     Increment,

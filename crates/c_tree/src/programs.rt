@@ -16,7 +16,7 @@ pub struct LocalDef {
 
 /// What a function's weight and frame are made of: its nodes, its joins, its register variables and the bytes of its
 /// variables in memory, with those of its inline calls. Each sum stops at 2^63.
-#[derive(Clone, Copy, Debug, PartialEq, Eq)]
+#[derive(Clone, Copy, PartialEq, Eq)]
 pub struct Counts {
     pub nodes: u64,
     pub joins: u64,
@@ -41,7 +41,7 @@ pub struct FnDef {
 
 /// An address constant in a data object: the pointer's eight bytes stand from `at`, and it points into the object
 /// `target`, at `offset`, with the end of its subobject at `end`.
-#[derive(Clone, Copy, Debug, PartialEq, Eq)]
+#[derive(Clone, Copy, PartialEq, Eq)]
 pub struct Link {
     pub at: u32,
     pub target: u32,

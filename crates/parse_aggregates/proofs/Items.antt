@@ -6,8 +6,8 @@ use Rattle.c_tree.specs.declared.nodes.Enumerator.{Enumerator}
 use Rattle.c_tree.specs.declared.nodes.MemberDecl.{MemberDecl}
 use Rattle.parse_meaning.specs.declared.terminals.Terminal.TheVariants as k
 use Rattle.parse_meaning.specs.Terminals.{Lexeme, at}
-use Rattle.parse_meaning.specs.Reading.{Read, ◌>>=◌, found, expression}
-use Rattle.parse_meaning.specs.ReadingDeclarators.{Named, enumerator, enumerators_comma, enumerators_behind, enumerators, declarators_behind, declarators, declarator, member_decl, members_behind, members, outer_spec}
+use Rattle.parse_reading.specs.Reading.{Read, ◌>>=◌, found, expression}
+use Rattle.parse_reading.specs.ReadingDeclarators.{Named, enumerator, enumerators_comma, enumerators_behind, enumerators, declarators_behind, declarators, declarator, member_decl, members_behind, members, outer_spec}
 use Rattle.parse_lists.specs.Ends.{enumerators_end_at, declarators_end_at, body_end_at}
 use Rattle.parse_tokens.proofs.Binds.{bind_each, bind_made}
 use Rattle.parse_lists.proofs.Lists.{ListOf, ended}

@@ -1,8 +1,8 @@
 -- The reading function of specifiers at a depth that code counts down.
 use Rattle.std.proofs.Common.{◌≡◌, ℕ, zero, suc, ◌-◌, ◌<◌, List, None, refl, ap, arith}
 use Rattle.parse_meaning.specs.Terminals.{Lexeme}
-use Rattle.parse_meaning.specs.Reading.{expression}
-use Rattle.parse_meaning.specs.ReadingDeclarators.{declarator, spec_by, outer_spec}
+use Rattle.parse_reading.specs.Reading.{expression}
+use Rattle.parse_reading.specs.ReadingDeclarators.{declarator, spec_by, outer_spec}
 
 pub outer_spec-zero : (depth : ℕ) (s : List Lexeme) → depth ≡ 0 → outer_spec depth s ≡ None
 unfolding outer_spec

@@ -2,20 +2,21 @@
 
 ghost use Rattle.std.specs.Prelude.{◌≤◌, ◌<◌, ◌^◌, length, IfOk};
 ghost use Rattle.parse_meaning.specs.Specifiers.{outer};
-ghost use Rattle.parse_meaning.specs.Reading.{specs_any, specs_in};
-ghost use Rattle.parse_meaning.specs.ReadingDeclarators as spec;
+ghost use Rattle.parse_reading.specs.Reading.{specs_any, specs_in};
+ghost use Rattle.parse_reading.specs.ReadingDeclarators as spec;
+ghost use Rattle.parse_tokens.specs.Rooms.{depth_room};
 ghost use Rattle.parse_tokens.specs.Gives.{Gives, Low};
 ghost use Rattle.parse_leaves.specs.Counts.{GivesCounted, GivesSpecs, total};
 ghost use Rattle.parse_aggregates.specs.Nests.{NestsSpecs};
 
 use c_tree::{Declarator, MemberDecl};
-use fc_base::both;
 use parse_declarators::declarator;
 use parse_leaves::{Context, Counted, SpecList};
 use parse_lists::{take_body_end, take_declarators_end};
 use parse_tokens::{ParseFault, Tokens, WithHeight, kept};
 use sqlite_items::Items;
 use std::alloc::Global;
+use tree_drops::{DeclaratorItems, MemberDeclItems, both};
 
 /// `*a, b[2];`
 fn declarators(
@@ -23,12 +24,12 @@ fn declarators(
     tokens: &mut Tokens<'_>,
     depth: usize,
 ) -> Result<WithHeight<Items<Declarator>>, ParseFault>
-    requires { depth < 1000 }
+    requires { depth < depth_room }
     ensures reads { Gives (spec.declarators (spec.declarator depth) (length tokens.old) tokens.old) result tokens.new }
     ensures low { Low depth result tokens.old tokens.new }
     ensures on { IfOk result (λ _. length tokens.new < length tokens.old) }
 {
-    let mut trees = Items::new(alloc);
+    let mut trees = DeclaratorItems::new(alloc);
     let mut height = 0;
     let turns = tokens.left();
     for _turn in 0..turns {
@@ -38,7 +39,7 @@ fn declarators(
         height = height.max(next.height);
         if take_declarators_end(tokens)? {
             return Ok(WithHeight {
-                tree: trees,
+                tree: trees.finish(),
                 height,
             });
         }
@@ -95,7 +96,7 @@ impl<F: Fn(Global, &mut Tokens<'_>, usize) -> Result<WithHeight<Counted>, ParseF
     }
 
     /// Specifiers that may stand together in an external declaration.
-    #[tactic(auto, unfolding(parse_meaning::specs::Reading::specs_in))]
+    #[tactic(auto, unfolding(parse_reading::specs::Reading::specs_in))]
     pub fn specs(&self, tokens: &mut Tokens<'_>) -> Result<WithHeight<SpecList>, ParseFault>
         requires { NestsSpecs self.now.depth (F.pre self.now.spec) (F.post self.now.spec) }
         ensures reads { GivesSpecs (specs_in (spec.outer_spec self.now.depth) outer tokens.old) result tokens.new }
@@ -111,7 +112,7 @@ impl<F: Fn(Global, &mut Tokens<'_>, usize) -> Result<WithHeight<Counted>, ParseF
     }
 
     /// `int *a, b[2];`
-    #[tactic(auto, unfolding(parse_meaning::specs::ReadingDeclarators::member_decl))]
+    #[tactic(auto, unfolding(parse_reading::specs::ReadingDeclarators::member_decl))]
     fn member_decl(&self, tokens: &mut Tokens<'_>) -> Result<WithHeight<MemberDecl>, ParseFault>
         requires { NestsSpecs self.now.depth (F.pre self.now.spec) (F.post self.now.spec) }
         ensures reads { Gives (spec.member_decl (spec.declarator self.now.depth) (spec.outer_spec self.now.depth) tokens.old) result tokens.new }
@@ -123,7 +124,7 @@ impl<F: Fn(Global, &mut Tokens<'_>, usize) -> Result<WithHeight<Counted>, ParseF
         let (specs, declarators) = both(specs, declarators)?;
         Ok(WithHeight {
             tree: MemberDecl {
-                specs: specs.tree.specs,
+                specs: specs.tree.specs.finish(),
                 declarators: declarators.tree,
             },
             height: specs.height.max(declarators.height),
@@ -141,7 +142,7 @@ impl<F: Fn(Global, &mut Tokens<'_>, usize) -> Result<WithHeight<Counted>, ParseF
         ensures on { IfOk result (λ _. length tokens.new < length tokens.old) }
         ensures few { length tokens.old < 2 ^ 63 }
     {
-        let mut trees = Items::new(self.alloc);
+        let mut trees = MemberDeclItems::new(self.alloc);
         let mut height = 0;
         let turns = tokens.left();
         for _turn in 0..turns {
@@ -150,7 +151,7 @@ impl<F: Fn(Global, &mut Tokens<'_>, usize) -> Result<WithHeight<Counted>, ParseF
             height = height.max(next.height);
             if take_body_end(tokens) {
                 return Ok(WithHeight {
-                    tree: trees,
+                    tree: trees.finish(),
                     height,
                 });
             }

@@ -2,8 +2,9 @@
 
 ghost use Rattle.std.specs.Prelude.{◌≡◌, ◌+◌, ◌≤◌, ◌<◌, ◌^◌, length, IfOk};
 ghost use Rattle.parse_meaning.specs.Specifiers.{outer, whole_type};
-ghost use Rattle.parse_meaning.specs.Reading.{expression, specs_in};
-ghost use Rattle.parse_meaning.specs.ReadingDeclarators as spec;
+ghost use Rattle.parse_reading.specs.Reading.{expression, specs_in};
+ghost use Rattle.parse_reading.specs.ReadingDeclarators as spec;
+ghost use Rattle.parse_tokens.specs.Rooms.{depth_room};
 ghost use Rattle.parse_tokens.specs.Gives.{Low};
 ghost use Rattle.parse_leaves.specs.Counts.{GivesCounted, GivesSpecs, tally_of, total};
 ghost use Rattle.parse_aggregates.specs.Nests.{NestsSpecs};
@@ -12,12 +13,13 @@ use crate::enumerations::enumerators;
 use crate::members::Bodies;
 use c_tokens::{Punct, Token};
 use c_tree::{Aggregate, Spec};
-use fc_base::{Place, both};
+use fc_base::Place;
 use parse_leaves::{Counted, SpecList, Tally, plain_spec};
 use parse_lists::copy_identifier;
 use parse_meaning::{Keyword, Terminal};
 use parse_tokens::{ParseFault, Tokens, WithHeight, is_tag};
 use std::alloc::Global;
+use tree_drops::both;
 
 /// A structure, union or enumeration as a specifier.
 fn as_whole(spec: Spec, height: usize) -> WithHeight<Counted>
@@ -37,7 +39,7 @@ fn as_whole(spec: Spec, height: usize) -> WithHeight<Counted>
 
 impl<F: Fn(Global, &mut Tokens<'_>, usize) -> Result<WithHeight<Counted>, ParseFault>> Bodies<F> {
     /// `int x; }` behind `struct {`
-    #[tactic(auto, unfolding(parse_meaning::specs::ReadingDeclarators::untagged))]
+    #[tactic(auto, unfolding(parse_reading::specs::ReadingDeclarators::untagged))]
     fn untagged(
         &self,
         tokens: &mut Tokens<'_>,
@@ -60,7 +62,7 @@ impl<F: Fn(Global, &mut Tokens<'_>, usize) -> Result<WithHeight<Counted>, ParseF
     }
 
     /// `int x; }` behind `struct S {`, with the tag's token
-    #[tactic(auto, unfolding(parse_meaning::specs::ReadingDeclarators::tagged))]
+    #[tactic(auto, unfolding(parse_reading::specs::ReadingDeclarators::tagged))]
     fn tagged(
         &self,
         tokens: &mut Tokens<'_>,
@@ -140,7 +142,7 @@ impl<F: Fn(Global, &mut Tokens<'_>, usize) -> Result<WithHeight<Counted>, ParseF
     }
 
     /// `A, B }` behind `enum {`
-    #[tactic(auto, unfolding(parse_meaning::specs::ReadingDeclarators::enum_untagged))]
+    #[tactic(auto, unfolding(parse_reading::specs::ReadingDeclarators::enum_untagged))]
     fn enum_untagged(
         &self,
         tokens: &mut Tokens<'_>,
@@ -162,7 +164,7 @@ impl<F: Fn(Global, &mut Tokens<'_>, usize) -> Result<WithHeight<Counted>, ParseF
     }
 
     /// `A, B }` behind `enum E {`, with the tag's token
-    #[tactic(auto, unfolding(parse_meaning::specs::ReadingDeclarators::enum_tagged))]
+    #[tactic(auto, unfolding(parse_reading::specs::ReadingDeclarators::enum_tagged))]
     fn enum_tagged(
         &self,
         tokens: &mut Tokens<'_>,
@@ -263,7 +265,7 @@ fn outer_spec(
     tokens: &mut Tokens<'_>,
     depth: usize,
 ) -> Result<WithHeight<Counted>, ParseFault>
-    requires { depth < 1000 }
+    requires { depth < depth_room }
     ensures reads { GivesCounted (spec.outer_spec depth tokens.old) result tokens.new }
     ensures low { Low depth result tokens.old tokens.new }
     ensures small { IfOk result (λ x. total x.tree.tally ≤ 1) }
@@ -286,7 +288,7 @@ pub fn outer_specs(
     tokens: &mut Tokens<'_>,
     depth: usize,
 ) -> Result<WithHeight<SpecList>, ParseFault>
-    requires { depth < 1000 }
+    requires { depth < depth_room }
     ensures reads { GivesSpecs (specs_in (spec.outer_spec depth) outer tokens.old) result tokens.new }
     ensures low { Low depth result tokens.old tokens.new }
     ensures small { IfOk result (λ x. total x.tree.tally < 2 ^ 63) }

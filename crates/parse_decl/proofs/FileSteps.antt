@@ -15,9 +15,9 @@ use Rattle.c_tree.specs.declared.externals.FileTree.{FileTree}
 use Rattle.parse_meaning.specs.Terminals.{lexeme}
 use Rattle.parse_meaning.specs.File as f
 use Rattle.parse_meaning.specs.File.{Declarations, behind, Declares, Derives, first_left_out, first_deep}
-use Rattle.parse_meaning.specs.Reading.{Read}
-use Rattle.parse_meaning.specs.ReadingFile.{NamedExternal, external, goes_on, file}
-use Rattle.parse_meaning.proofs.Files.{file_declares}
+use Rattle.parse_reading.specs.Reading.{Read}
+use Rattle.parse_reading.specs.ReadingFile.{NamedExternal, external, goes_on, file, highest_part}
+use Rattle.parse_reading.proofs.Files.{file_declares}
 use Rattle.parse_decl.specs.IsRead.{IsRead}
 use Rattle.parse_tokens.proofs.Names.{SameNames, lexemes_alike, append_same}
 
@@ -76,26 +76,26 @@ take_behind xs n m same =
 
 -- ---- What a file derives, by what is read
 
-declares_read : (s : List Token) (out : Declarations) → file 399 (length s) [] s ≡ out → Declares [] s out
+declares_read : (s : List Token) (out : Declarations) → file highest_part (length s) [] s ≡ out → Declares [] s out
 declares_read s out e = subst (Declares [] s) e (file_declares (length s) [] s (omega arith))
 
-pub derives_refused : (s : List Token) (r : Refusal) → first_left_out s ≡ None → first_deep 0 s ≡ None → r.rule ≡ rule.Syntax → file 399 (length s) [] s ≡ Err r.place →
+pub derives_refused : (s : List Token) (r : Refusal) → first_left_out s ≡ None → first_deep 0 s ≡ None → r.rule ≡ rule.Syntax → file highest_part (length s) [] s ≡ Err r.place →
     Derives s (Err r)
 derives_refused s r kept low is read =
     let made : Rule → Refusal = λ w. record { rule = w; place = r.place } in
     let P : Refusal → Type 0 = λ q. Derives s (Err q) in
     subst P (ap made (sym is)) (f.refused_syntax kept low (declares_read s (Err r.place) read))
 
-pub derives_read : (s : List Token) (xs : List External) → first_left_out s ≡ None → first_deep 0 s ≡ None → file 399 (length s) [] s ≡ Ok xs →
+pub derives_read : (s : List Token) (xs : List External) → first_left_out s ≡ None → first_deep 0 s ≡ None → file highest_part (length s) [] s ≡ Ok xs →
     Derives s (Ok (record { externals = xs }))
 derives_read s xs kept low read = f.derived kept low (declares_read s (Ok xs) read)
 
-err_read : (s : List Token) (e : Fault) → first_left_out s ≡ None → first_deep 0 s ≡ None → IsRead (file 399 (length s) [] s) (Err e) → Fails e (Derives s)
+err_read : (s : List Token) (e : Fault) → first_left_out s ≡ None → first_deep 0 s ≡ None → IsRead (file highest_part (length s) [] s) (Err e) → Fails e (Derives s)
 err_read s fault.NoMemory kept low read = tt
 err_read s (fault.Refused r) kept low read = derives_refused s r kept low read.0 read.1
 
 pub err_derives : (s : List Token) (r : Result FileTree Fault) (e : Fault) → first_left_out s ≡ None → first_deep 0 s ≡ None → IsErrAnd r (λ f. e ≡ f) →
-    IsRead (file 399 (length s) [] s) (Err e) → Answers (λ tree. tree) r (Derives s)
+    IsRead (file highest_part (length s) [] s) (Err e) → Answers (λ tree. tree) r (Derives s)
 err_derives s (Ok x) e kept low same read = absurd same
 err_derives s (Err f) e kept low same read =
     let P : Fault → Type 0 = λ f. Fails f (Derives s) in

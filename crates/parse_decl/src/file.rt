@@ -4,26 +4,21 @@ ghost use Rattle.std.specs.Prelude.{◌≡◌, ℕ, ◌≢◌, ◌-◌, ◌++◌
 ghost use Rattle.c_tokens.specs.declared.tokens.Token.{Token};
 ghost use Rattle.parse_meaning.specs.File.{Derives};
 ghost use Rattle.parse_meaning.specs.Terminals.{has, lexeme};
-ghost use Rattle.parse_meaning.specs.Reading.{Read};
-ghost use Rattle.parse_meaning.specs.ReadingFile as spec;
+ghost use Rattle.parse_reading.specs.Reading.{Read};
+ghost use Rattle.parse_reading.specs.ReadingFile as spec;
 ghost use Rattle.fc_base.specs.Answers.{Answers};
 ghost use Rattle.parse_externals.specs.Externals.{external_of};
 ghost use Rattle.parse_decl.specs.IsRead.{IsRead};
 
 use c_tokens::Token;
 use c_tree::{External, FileTree, HEIGHT_LIMIT};
-use fc_base::{Fault, NoMemory, Place, Refusal, Rule, Text};
+use fc_base::{Fault, NoMemory, Place, Rule, Text};
 use parse_externals::{NamedExternal, external};
 use parse_limits::{deep_bracket, left_out_keyword};
 use parse_tokens::{ParseFault, Tokens, TypeNames};
 use sqlite_items::Items;
 use std::alloc::Global;
-
-fn refused(rule: Rule, place: Place) -> Fault
-    ensures { result ≡ Fault.Refused (record { rule = rule; place = place }) }
-{
-    Fault::Refused(Refusal { rule, place })
-}
+use tree_drops::{ExternalItems, both};
 
 /// The place of the first token.
 fn first_place(rest: &[Token]) -> Option<Place>
@@ -66,24 +61,26 @@ fn declarations(alloc: Global, tokens: &[Token]) -> Result<Items<External>, Faul
 {
     let mut rest = tokens;
     let mut types = TypeNames::new(alloc);
-    let mut found = Items::new(alloc);
+    let mut found = ExternalItems::new(alloc);
     for _turn in 0..tokens.len() {
         let Some(place) = first_place(rest) else {
-            return Ok(found);
+            return Ok(found.finish());
         };
         match first(alloc, rest, &types) {
             Err(ParseFault::NoMemory) => return Err(Fault::NoMemory),
-            Err(ParseFault::NoDerivation) => return Err(refused(Rule::Syntax, place)),
+            Err(ParseFault::NoDerivation) => return Err(Fault::refused(Rule::Syntax, place)),
             Ok((declaration, behind)) => {
-                grow(alloc, &mut types, declaration.names.as_slice())?;
-                found.push(declaration.tree)?;
+                let NamedExternal { tree, names } = declaration;
+                let grown = grow(alloc, &mut types, names.as_slice());
+                let (tree, ()) = both(tree, grown)?;
+                found.push(tree)?;
                 rest = behind;
             }
         }
     }
     match first_place(rest) {
-        None => Ok(found),
-        Some(place) => Err(refused(Rule::Syntax, place)),
+        None => Ok(found.finish()),
+        Some(place) => Err(Fault::refused(Rule::Syntax, place)),
     }
 }
 
@@ -93,10 +90,10 @@ pub fn parse(alloc: Global, tokens: &[Token]) -> Result<FileTree, Fault>
     ensures { Answers (λ tree. tree) result (Derives tokens.now) }
 {
     if let Some(place) = left_out_keyword(tokens) {
-        return Err(refused(Rule::LeftOutKeyword, place));
+        return Err(Fault::refused(Rule::LeftOutKeyword, place));
     }
     if let Some(place) = deep_bracket(tokens) {
-        return Err(refused(Rule::LimitDepth, place));
+        return Err(Fault::refused(Rule::LimitDepth, place));
     }
     let externals = declarations(alloc, tokens)?;
     Ok(FileTree { externals })

@@ -4,8 +4,8 @@ use Rattle.c_tokens.specs.declared.puncts.Punct.TheVariants as p
 use Rattle.c_tree.specs.declared.nodes.Param.{Param}
 use Rattle.parse_meaning.specs.declared.terminals.Terminal.TheVariants as k
 use Rattle.parse_meaning.specs.Terminals.{Lexeme, at}
-use Rattle.parse_meaning.specs.Reading.{Read, ◌>>=◌, expression}
-use Rattle.parse_meaning.specs.ReadingDeclarators.{param, params_behind, params_some, declarator}
+use Rattle.parse_reading.specs.Reading.{Read, ◌>>=◌, expression}
+use Rattle.parse_reading.specs.ReadingDeclarators.{param, params_behind, params_some, declarator}
 use Rattle.parse_lists.specs.Ends.{params_end_at}
 use Rattle.parse_tokens.proofs.Binds.{bind_each}
 use Rattle.parse_lists.proofs.Lists.{ListOf, ended}

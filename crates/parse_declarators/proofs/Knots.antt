@@ -1,8 +1,8 @@
 -- The reading function of declarators at a depth that code counts down.
 use Rattle.std.proofs.Common.{◌≡◌, ℕ, zero, suc, ◌-◌, ◌<◌, List, length, None, refl, ap, arith}
 use Rattle.parse_meaning.specs.Terminals.{Lexeme}
-use Rattle.parse_meaning.specs.Reading.{expression}
-use Rattle.parse_meaning.specs.ReadingDeclarators.{whole, declarator}
+use Rattle.parse_reading.specs.Reading.{expression}
+use Rattle.parse_reading.specs.ReadingDeclarators.{whole, declarator}
 
 pub declarator-zero : (depth : ℕ) (s : List Lexeme) → depth ≡ 0 → declarator depth s ≡ None
 unfolding declarator

@@ -2,16 +2,16 @@
 use Rattle.std.proofs.Common.{◌≡◌, ◌+◌, ◌≤◌, ℕ, suc, List, [], length, Result, Ok, Err, arith}
 use Rattle.std.specs.Prelude.{IfSome, IfOk}
 use Rattle.parse_meaning.specs.Terminals.{Lexeme}
-use Rattle.parse_meaning.specs.Reading.{expression}
-use Rattle.parse_meaning.specs.ReadingDeclarators.{params_in, whole, first, declarator}
-use Rattle.parse_meaning.proofs.Basics.{weaken}
+use Rattle.parse_reading.specs.Reading.{expression}
+use Rattle.parse_reading.specs.ReadingDeclarators.{params_in, whole, first, declarator}
+use Rattle.parse_reading.proofs.Basics.{weaken}
 use Rattle.parse_tokens.specs.declared.faults.ParseFault.{ParseFault}
 use Rattle.parse_tokens.specs.declared.faults.WithHeight.{WithHeight}
 use Rattle.parse_tokens.specs.Gives.{Low}
 use Rattle.parse_leaves.proofs.Lengths.{Shorter}
 use Rattle.parse_meaning.proofs.Alone.{alike_shorter, params_move, direct_moves}
-use Rattle.parse_meaning.proofs.Sound.{expression_sound}
-use Rattle.parse_meaning.proofs.SoundDeclarators.{params_in_sound, whole_sound, first_sound, declarator_sound}
+use Rattle.parse_reading.proofs.Sound.{expression_sound}
+use Rattle.parse_reading.proofs.SoundDeclarators.{params_in_sound, whole_sound, first_sound, declarator_sound}
 
 pub params_shorter : (n : ℕ) (s : List Lexeme) → IfSome (params_in (suc n) (expression n) (declarator n) s) (Shorter s)
 params_shorter n s =

@@ -6,9 +6,9 @@ use Rattle.c_tokens.specs.declared.puncts.Punct.TheVariants as p
 use Rattle.c_tokens.specs.declared.tokens.Token.{Token}
 use Rattle.parse_meaning.specs.declared.terminals.Terminal.TheVariants as k
 use Rattle.parse_meaning.specs.Terminals.{Lexeme, at, place_of}
-use Rattle.parse_meaning.specs.Reading.{Read, ◌>>=◌, after_right_paren, found, pointer_words, expression}
-use Rattle.parse_meaning.specs.ReadingDeclarators.{Named, grouped, first, direct, pointer_to, whole, declarator}
-use Rattle.parse_meaning.proofs.Basics.{weaken}
+use Rattle.parse_reading.specs.Reading.{Read, ◌>>=◌, after_right_paren, found, pointer_words, expression}
+use Rattle.parse_reading.specs.ReadingDeclarators.{Named, grouped, first, direct, pointer_to, whole, declarator}
+use Rattle.parse_reading.proofs.Basics.{weaken}
 use Rattle.parse_declarators.specs.declared.declarators.Pointer.{Pointer}
 use Rattle.parse_tokens.specs.declared.faults.ParseFault.{ParseFault}
 use Rattle.parse_tokens.specs.declared.faults.ParseFault.TheVariants as fault

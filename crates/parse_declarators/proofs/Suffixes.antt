@@ -6,9 +6,9 @@ use Rattle.c_tokens.specs.declared.puncts.Punct.TheVariants as p
 use Rattle.c_tokens.specs.declared.tokens.Token.{Token}
 use Rattle.parse_meaning.specs.declared.terminals.Terminal.TheVariants as k
 use Rattle.parse_meaning.specs.Terminals.{Lexeme, at}
-use Rattle.parse_meaning.specs.Reading.{Read, ◌>>=◌, bounded, bound, expression}
-use Rattle.parse_meaning.specs.ReadingDeclarators.{Named, params_in, suffixes_behind, suffixes, declarator}
-use Rattle.parse_meaning.proofs.Basics.{weaken}
+use Rattle.parse_reading.specs.Reading.{Read, ◌>>=◌, bounded, bound, expression}
+use Rattle.parse_reading.specs.ReadingDeclarators.{Named, params_in, suffixes_behind, suffixes, declarator}
+use Rattle.parse_reading.proofs.Basics.{weaken}
 use Rattle.parse_declarators.specs.declared.declarators.Suffix.TheVariants as suffix
 use Rattle.parse_declarators.specs.Suffixes.{suffix_at, with_bound, with_params, array_at, function_at}
 use Rattle.parse_tokens.proofs.Binds.{bind_same, bind_each, bind_bind}

@@ -2,9 +2,10 @@
 use Rattle.std.specs.Prelude.{◌≡◌, ◌≢◌, ℕ, suc, ◌+◌, ◌^◌, ◌<◌, List, length, Option, None, Result, Ok, Err}
 use Rattle.parse_meaning.specs.Terminals.{Lexeme}
 use Rattle.parse_meaning.specs.Expressions as g
-use Rattle.parse_meaning.specs.Reading.{Read, Specs, found, expression}
-use Rattle.parse_meaning.specs.ReadingDeclarators as spec
-use Rattle.parse_meaning.specs.ReadingDeclarators.{as_named, whole, declarator}
+use Rattle.parse_reading.specs.Reading.{Read, Specs, found, expression}
+use Rattle.parse_reading.specs.ReadingDeclarators as spec
+use Rattle.parse_reading.specs.ReadingDeclarators.{as_named, whole, declarator}
+use Rattle.parse_tokens.specs.Rooms.{height_room}
 use Rattle.parse_tokens.specs.declared.faults.ParseFault.{ParseFault}
 use Rattle.parse_tokens.specs.declared.faults.ParseFault.TheVariants as fault
 use Rattle.parse_tokens.specs.declared.faults.WithHeight.{WithHeight}
@@ -44,4 +45,4 @@ as_specs xs t = found (specs_of xs.tree) xs.height t
 
 -- a height that stays within 64 bits, whatever the tokens that are left add to it
 abbrev pub HasRoom : ℕ → List Lexeme → Type 0
-HasRoom height s = (length s < 2 ^ 63) × (height + length s < 2 ^ 63 + 2000)
+HasRoom height s = (length s < 2 ^ 63) × (height + length s < 2 ^ 63 + height_room)

@@ -3,7 +3,8 @@ use Rattle.std.specs.Prelude.{ℕ, ◌<◌, Result, IfOk, List, length}
 use Rattle.std.specs.declared.alloc.Global.{Global}
 use denote.Ref.{MutBor}
 use Rattle.parse_meaning.specs.Terminals.{Lexeme}
-use Rattle.parse_meaning.specs.ReadingDeclarators.{declarator}
+use Rattle.parse_reading.specs.ReadingDeclarators.{declarator}
+use Rattle.parse_tokens.specs.Rooms.{depth_room}
 use Rattle.parse_tokens.specs.Gives.{Low}
 use Rattle.parse_tokens.specs.declared.faults.ParseFault.{ParseFault}
 use Rattle.parse_tokens.specs.declared.faults.WithHeight.{WithHeight}
@@ -19,4 +20,4 @@ pub record Nests (depth : ℕ) (pre : Global → MutBor (List Lexeme) → ℕ �
       → Low depth r old.now new.now
   pub on : (alloc : Global) (old new : MutBor (List Lexeme)) (r : Result (WithHeight Named) ParseFault) → post alloc old depth r new
       → IfOk r (λ _. length new.now < length old.now)
-  pub few : depth < 1000
+  pub few : depth < depth_room

@@ -8,8 +8,8 @@ use Rattle.c_tree.specs.declared.nodes.Params.{Params}
 use Rattle.parse_meaning.specs.declared.terminals.Terminal.TheVariants as k
 use Rattle.parse_meaning.specs.Terminals.{Lexeme, at, text_of, place_of}
 use Rattle.parse_meaning.specs.Expressions.{bare, parameters, other, behind}
-use Rattle.parse_meaning.specs.Reading.{Read, ◌>>=◌, found, bounded, after_left_paren, after_right_paren, after_left_bracket, pointer_words, bound}
-use Rattle.parse_meaning.specs.ReadingDeclarators.{Named, as_named, params_in, suffixes}
+use Rattle.parse_reading.specs.Reading.{Read, ◌>>=◌, found, bounded, after_left_paren, after_right_paren, after_left_bracket, pointer_words, bound}
+use Rattle.parse_reading.specs.ReadingDeclarators.{Named, as_named, params_in, suffixes}
 use Rattle.parse_declarators.specs.declared.declarators.Pointer.{Pointer}
 use Rattle.parse_declarators.specs.declared.declarators.Opening.{Opening}
 use Rattle.parse_declarators.specs.declared.declarators.Suffix.{Suffix}

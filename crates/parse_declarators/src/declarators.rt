@@ -2,8 +2,9 @@
 
 ghost use Rattle.std.specs.Prelude.{◌≡◌, ◌+◌, ◌-◌, ◌≤◌, ◌<◌, ◌^◌, suc, max, List, Some, length, IfOk, IsTrue};
 ghost use Rattle.parse_meaning.specs.Terminals.{Lexeme};
-ghost use Rattle.parse_meaning.specs.Reading.{bounded, expression, found};
-ghost use Rattle.parse_meaning.specs.ReadingDeclarators as spec;
+ghost use Rattle.parse_reading.specs.Reading.{bounded, expression, found};
+ghost use Rattle.parse_reading.specs.ReadingDeclarators as spec;
+ghost use Rattle.parse_tokens.specs.Rooms.{depth_room};
 ghost use Rattle.parse_tokens.specs.Gives.{Gives, Low};
 ghost use Rattle.parse_declarators.specs.Named.{GivesNamed, GivesOpenings, HasRoom, as_read};
 ghost use Rattle.parse_declarators.specs.Nests.{Nests};
@@ -13,13 +14,14 @@ use crate::named::{Named, Nearest};
 use crate::params::Declarators;
 use c_tokens::Punct;
 use c_tree::{Declarator, Expr, Params, PointerWord};
-use fc_base::{Place, both};
+use fc_base::Place;
 use parse_expressions::bound;
 use parse_leaves::{boxed_behind, pointer_words};
 use parse_meaning::Terminal;
 use parse_tokens::{ParseFault, Tokens, WithHeight, copy_text, kept, text_of};
 use sqlite_items::{Boxed, Items};
 use std::alloc::{AllocError, Global};
+use tree_drops::{LetGo, both};
 
 /// The stars before a direct declarator, with their qualifiers.
 #[derive(Drop)]
@@ -36,6 +38,10 @@ pub struct Opening {
     start: Place,
 }
 
+impl LetGo for Opening {
+    fn let_go(self) {}
+}
+
 /// The openings of a declarator.
 #[derive(Drop)]
 pub struct Openings {
@@ -46,7 +52,7 @@ pub struct Openings {
 }
 
 /// How a declarator goes on.
-#[derive(Clone, Copy, Debug, PartialEq, Eq)]
+#[derive(Clone, Copy, PartialEq, Eq)]
 pub enum Suffix {
     /// With a bound in brackets.
     Array,
@@ -157,7 +163,7 @@ fn take_openings<'a>(
         inmost = take_opening(alloc, tokens)?;
     }
     let name = take_name(alloc, tokens);
-    both(Openings { outer, inmost }, name)
+    fc_base::both(Openings { outer, inmost }, name)
 }
 
 /// The declarator behind its pointer.
@@ -252,7 +258,7 @@ fn within<'a>(
     found: WithHeight<Named<'a>>,
     depth: usize,
 ) -> Result<WithHeight<Named<'a>>, ParseFault>
-    requires { depth < 1000 }
+    requires { depth < depth_room }
     ensures reads { (t : List Lexeme) → GivesNamed (bounded (suc depth) (as_read found.entry t)) result t }
     ensures same { IfOk result (λ x. x.height ≡ found.entry.height) }
 {
@@ -266,7 +272,7 @@ fn bracketed(
     tokens: &mut Tokens<'_>,
     depth: usize,
 ) -> Result<WithHeight<Option<Boxed<Expr>>>, ParseFault>
-    requires { depth < 1000 }
+    requires { depth < depth_room }
     ensures reads { Gives (bracketed (expression depth) tokens.old) result tokens.new }
     ensures low { IfOk result (λ x. x.height ≤ depth) }
     ensures on { IfOk result (λ _. length tokens.new < length tokens.old) }
@@ -366,7 +372,7 @@ impl<
     {
         let Opening { pointer, start } = opening;
         let direct = self.suffixes(tokens, start, first);
-        let (pointer, direct) = both(pointer, direct)?;
+        let (pointer, direct) = fc_base::both(pointer, direct)?;
         Ok(pointed(self.alloc, pointer, direct)?)
     }
 
@@ -406,7 +412,7 @@ impl<
         let mut declarator = inner;
         while let Some(opening) = outer.pop() {
             let next = self.in_parens(tokens, opening, declarator);
-            let (left, next) = both(outer, next)?;
+            let (left, next) = fc_base::both(outer, next)?;
             outer = left;
             declarator = next;
         }
@@ -424,7 +430,7 @@ impl<
         let (openings, name) = take_openings(self.alloc, tokens)?;
         let Openings { outer, inmost } = openings;
         let inner = self.closed(tokens, inmost, name);
-        let (outer, inner) = both(outer, inner)?;
+        let (outer, inner) = fc_base::both(outer, inner)?;
         self.around(tokens, outer, inner)
     }
 }
@@ -435,7 +441,7 @@ pub fn declarator<'a>(
     tokens: &mut Tokens<'a>,
     depth: usize,
 ) -> Result<WithHeight<Named<'a>>, ParseFault>
-    requires { depth < 1000 }
+    requires { depth < depth_room }
     ensures reads { GivesNamed (spec.declarator depth tokens.old) result tokens.new }
     ensures low { Low depth result tokens.old tokens.new }
     ensures on { IfOk result (λ _. length tokens.new < length tokens.old) }

@@ -5,9 +5,10 @@ ghost use Rattle.parse_meaning.specs.Expressions.{nearer};
 ghost use Rattle.parse_declarators.specs.Named.{nearest_of};
 
 use c_tree::Declarator;
+use tree_drops::LetGo;
 
 /// What stands next to the name of a declarator, whatever parentheses are round it.
-#[derive(Clone, Copy, Debug, PartialEq, Eq)]
+#[derive(Clone, Copy, PartialEq, Eq)]
 pub enum Nearest {
     /// Nothing.
     Bare,
@@ -34,4 +35,10 @@ pub struct Named<'a> {
     pub tree: Declarator,
     pub name: &'a [u8],
     pub nearest: Nearest,
+}
+
+impl LetGo for Named<'_> {
+    fn let_go(self) {
+        self.tree.let_go();
+    }
 }

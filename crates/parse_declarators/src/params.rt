@@ -1,8 +1,8 @@
 //! Parameters (C11 6.7.6).
 
 ghost use Rattle.std.specs.Prelude.{◌+◌, ◌≤◌, ◌<◌, suc, length, IfOk};
-ghost use Rattle.parse_meaning.specs.Reading.{expression};
-ghost use Rattle.parse_meaning.specs.ReadingDeclarators as spec;
+ghost use Rattle.parse_reading.specs.Reading.{expression};
+ghost use Rattle.parse_reading.specs.ReadingDeclarators as spec;
 ghost use Rattle.parse_tokens.specs.Gives.{Gives, Low};
 ghost use Rattle.parse_declarators.specs.Named.{as_specs};
 ghost use Rattle.parse_declarators.specs.Nests.{Nests};
@@ -10,7 +10,7 @@ ghost use Rattle.parse_declarators.specs.Nests.{Nests};
 use crate::named::Named;
 use c_tokens::Punct;
 use c_tree::{Param, Params};
-use fc_base::{Place, both};
+use fc_base::Place;
 use parse_expressions::abstract_declarator;
 use parse_leaves::{Context, SpecList, plain_specs};
 use parse_lists::{names, take_params_end};
@@ -18,6 +18,7 @@ use parse_meaning::{Keyword, Terminal};
 use parse_tokens::{ParseFault, Tokens, WithHeight};
 use sqlite_items::Items;
 use std::alloc::Global;
+use tree_drops::{ParamItems, both};
 
 /// The productions of declarators, over a function that reads the declarators of parameters.
 #[derive(Clone, Copy)]
@@ -33,7 +34,7 @@ impl<
     F: Fn(Global, &mut Tokens<'a>, usize) -> Result<WithHeight<Named<'a>>, ParseFault>,
 > Declarators<F> {
     /// `int *x`, behind `int`
-    #[tactic(auto, unfolding(parse_meaning::specs::ReadingDeclarators::param_named))]
+    #[tactic(auto, unfolding(parse_reading::specs::ReadingDeclarators::param_named))]
     fn param_named(
         &self,
         tokens: &mut Tokens<'a>,
@@ -49,7 +50,7 @@ impl<
         let (specs, named) = both(specs, named)?;
         Ok(WithHeight {
             tree: Param {
-                specs: specs.tree.specs,
+                specs: specs.tree.specs.finish(),
                 declarator: named.tree.tree,
             },
             height: specs.height.max(named.height),
@@ -57,7 +58,7 @@ impl<
     }
 
     /// `int *[2]`, behind `int`
-    #[tactic(auto, unfolding(parse_meaning::specs::ReadingDeclarators::param_abstract))]
+    #[tactic(auto, unfolding(parse_reading::specs::ReadingDeclarators::param_abstract))]
     fn param_abstract(
         &self,
         tokens: &mut Tokens<'a>,
@@ -74,7 +75,7 @@ impl<
         let (specs, unnamed) = both(specs, unnamed)?;
         Ok(WithHeight {
             tree: Param {
-                specs: specs.tree.specs,
+                specs: specs.tree.specs.finish(),
                 declarator: unnamed.tree,
             },
             height: specs.height.max(unnamed.height),
@@ -82,7 +83,7 @@ impl<
     }
 
     /// A parameter.
-    #[tactic(auto, unfolding(parse_meaning::specs::ReadingDeclarators::param))]
+    #[tactic(auto, unfolding(parse_reading::specs::ReadingDeclarators::param))]
     fn param(&self, tokens: &mut Tokens<'a>) -> Result<WithHeight<Param>, ParseFault>
         requires { Nests self.now.depth (F.pre self.now.declarator) (F.post self.now.declarator) }
         ensures reads { Gives (spec.param (suc self.now.depth) (expression self.now.depth) (spec.declarator self.now.depth) tokens.old) result tokens.new }
@@ -105,7 +106,7 @@ impl<
         ensures low { Low (self.now.depth + 1) result tokens.old tokens.new }
         ensures on { IfOk result (λ _. length tokens.new < length tokens.old) }
     {
-        let mut trees = Items::new(self.alloc);
+        let mut trees = ParamItems::new(self.alloc);
         let mut height = 0;
         let turns = tokens.left();
         for _turn in 0..turns {
@@ -114,7 +115,7 @@ impl<
             height = height.max(param.height);
             if take_params_end(tokens)? {
                 return Ok(WithHeight {
-                    tree: trees,
+                    tree: trees.finish(),
                     height,
                 });
             }
@@ -122,7 +123,7 @@ impl<
         Err(ParseFault::NoDerivation)
     }
 
-    #[tactic(auto, unfolding(parse_meaning::specs::ReadingDeclarators::params_list))]
+    #[tactic(auto, unfolding(parse_reading::specs::ReadingDeclarators::params_list))]
     fn params_list(&self, tokens: &mut Tokens<'a>) -> Result<WithHeight<Params>, ParseFault>
         requires { Nests self.now.depth (F.pre self.now.declarator) (F.post self.now.declarator) }
         ensures reads { Gives (spec.params_list (suc self.now.depth) (expression self.now.depth) (spec.declarator self.now.depth) tokens.old) result tokens.new }

@@ -14,7 +14,7 @@ use parse_tokens::{ParseFault, Tokens, TypeNames, kept};
 use std::alloc::Global;
 
 /// The form in which an expression is asked for.
-#[derive(Clone, Copy, Debug, PartialEq, Eq)]
+#[derive(Clone, Copy, PartialEq, Eq)]
 pub enum ExprForm {
     /// An expression (C11 6.5.17).
     Full,

@@ -4,7 +4,7 @@ use Rattle.std.proofs.lemmas.Bool.Decides.{nat_tests}
 use Rattle.fc_base.specs.declared.refusals.Place.{Place}
 use Rattle.c_tree.specs.declared.nodes.Expr.{Expr}
 use Rattle.parse_meaning.specs.Terminals.{Lexeme}
-use Rattle.parse_meaning.specs.Reading.{Read, LeftOperand, binds, next_in, climb}
+use Rattle.parse_reading.specs.Reading.{Read, LeftOperand, binds, next_in, climb}
 
 below : (a b : ℕ) → a < b → nat_lt a b ≡ true
 below a b h = grind (arith, nat_tests)

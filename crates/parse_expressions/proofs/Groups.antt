@@ -6,7 +6,7 @@ use Rattle.c_tokens.specs.declared.tokens.Token.{Token}
 use Rattle.c_tree.specs.declared.nodes.Expr.{Expr}
 use Rattle.parse_meaning.specs.declared.terminals.Terminal.TheVariants as k
 use Rattle.parse_meaning.specs.Terminals.{Lexeme, at, place_of}
-use Rattle.parse_meaning.specs.Reading.{Read, LeftOperand, begins_spec, begun, parenthesised, prefix}
+use Rattle.parse_reading.specs.Reading.{Read, LeftOperand, begins_spec, begun, parenthesised, prefix}
 
 module _ (n : ℕ) (sub : ℕ → List Lexeme → Option (Read Expr)) where
   -- in parentheses that begin at these places, the outermost first

@@ -1,7 +1,7 @@
 -- The reading of expressions at a depth that code counts down.
 use Rattle.std.proofs.Common.{◌≡◌, ℕ, zero, suc, ◌-◌, ◌<◌, List, None, refl, ap, arith}
 use Rattle.parse_meaning.specs.Terminals.{Lexeme}
-use Rattle.parse_meaning.specs.Reading.{level_up_to, expression}
+use Rattle.parse_reading.specs.Reading.{level_up_to, expression}
 
 pub expression-zero : (depth to : ℕ) (s : List Lexeme) → depth ≡ 0 → expression depth to s ≡ None
 unfolding expression

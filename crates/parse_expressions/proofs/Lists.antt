@@ -5,7 +5,7 @@ use Rattle.c_tree.specs.declared.nodes.Expr.{Expr}
 use Rattle.parse_meaning.specs.declared.terminals.Terminal.TheVariants as k
 use Rattle.parse_meaning.specs.Terminals.{Lexeme, at}
 use Rattle.parse_meaning.specs.Expressions.{assignment}
-use Rattle.parse_meaning.specs.Reading.{Read, found, prepended, after_comma, exprs_behind, exprs}
+use Rattle.parse_reading.specs.Reading.{Read, found, prepended, after_comma, exprs_behind, exprs}
 use Rattle.parse_tokens.proofs.Turns.{prepended-prepended}
 use Rattle.parse_leaves.proofs.Misses.{nothing_found, found_nothing, some_same}
 

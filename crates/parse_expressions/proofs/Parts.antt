@@ -7,14 +7,14 @@ use Rattle.c_tokens.specs.declared.tokens.Token.{Token}
 use Rattle.c_tree.specs.declared.nodes.Expr.{Expr}
 use Rattle.c_tree.specs.declared.nodes.ExprKind.TheVariants as e
 use Rattle.parse_meaning.specs.declared.terminals.Keyword.TheVariants as w
-use Rattle.parse_meaning.specs.declared.terminals.Operator.{Operator}
-use Rattle.parse_meaning.specs.declared.terminals.Operator.TheVariants as role
+use Rattle.parse_reading.specs.declared.operators.Operator.{Operator}
+use Rattle.parse_reading.specs.declared.operators.Operator.TheVariants as role
 use Rattle.parse_meaning.specs.declared.terminals.Terminal.{Terminal}
 use Rattle.parse_meaning.specs.declared.terminals.Terminal.TheVariants as k
 use Rattle.parse_meaning.specs.Terminals.{Lexeme, at, text_of, place_of, is_tag}
 use Rattle.parse_meaning.specs.Expressions.{expr}
-use Rattle.parse_meaning.specs.Reading as spec
-use Rattle.parse_meaning.specs.Reading.{◌>>=◌, Read, LeftOperand, found, left}
+use Rattle.parse_reading.specs.Reading as spec
+use Rattle.parse_reading.specs.Reading.{◌>>=◌, Read, LeftOperand, found, left}
 use Rattle.parse_tokens.proofs.Binds.{bind_bind, bind_each}
 use Rattle.parse_operations.specs.Operations.{tall, with_operation}
 use Rattle.parse_operations.specs.declared.operations.Operation.{Operation}

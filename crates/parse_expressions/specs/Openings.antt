@@ -8,7 +8,7 @@ use Rattle.c_tree.specs.declared.nodes.TypeName.{TypeName}
 use Rattle.parse_meaning.specs.declared.terminals.Terminal.TheVariants as k
 use Rattle.parse_meaning.specs.Terminals.{Lexeme, at}
 use Rattle.parse_meaning.specs.Expressions.{expr, cast, conditional, assignment}
-use Rattle.parse_meaning.specs.Reading.{◌>>=◌, Read, LeftOperand, found, left, begins_spec, after_left_paren, after_right_paren, after_comma, type_name, sized_expr}
+use Rattle.parse_reading.specs.Reading.{◌>>=◌, Read, LeftOperand, found, left, begins_spec, after_left_paren, after_right_paren, after_comma, type_name, sized_expr}
 
 -- a parenthesis without the name of a type behind it
 abbrev pub opens_group : List Lexeme → Bool

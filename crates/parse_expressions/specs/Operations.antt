@@ -3,12 +3,12 @@ use Rattle.std.specs.Prelude.{ℕ, nat_le, if◌then◌else◌, Bool, List, [], 
 use Rattle.fc_base.specs.declared.refusals.Place.{Place}
 use Rattle.c_tokens.specs.declared.puncts.Punct.TheVariants as p
 use Rattle.c_tree.specs.declared.nodes.Expr.{Expr}
-use Rattle.parse_meaning.specs.declared.terminals.Operator.{Operator}
-use Rattle.parse_meaning.specs.declared.terminals.Operator.TheVariants as role
+use Rattle.parse_reading.specs.declared.operators.Operator.{Operator}
+use Rattle.parse_reading.specs.declared.operators.Operator.TheVariants as role
 use Rattle.parse_meaning.specs.declared.terminals.Terminal.TheVariants as k
 use Rattle.parse_meaning.specs.Terminals.{Lexeme, at, text_of, is_tag}
 use Rattle.parse_meaning.specs.Expressions.{conditional, assignment, expression as full}
-use Rattle.parse_meaning.specs.Reading.{◌>>=◌, Read, LeftOperand, found, after_right_paren, after_right_bracket, after_colon, operator_of, operator_takes, exprs}
+use Rattle.parse_reading.specs.Reading.{◌>>=◌, Read, LeftOperand, found, after_right_paren, after_right_bracket, after_colon, operator_of, operator_takes, exprs}
 use Rattle.parse_operations.specs.Operations.{tall, with_operation}
 use Rattle.parse_operations.specs.declared.operations.Operation.{Operation}
 use Rattle.parse_operations.specs.declared.operations.Operation.TheVariants as tail

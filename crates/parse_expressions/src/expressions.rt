@@ -1,7 +1,8 @@
 //! Expressions (C11 6.5), and the parts of declarators that lead to them.
 
 ghost use Rattle.std.specs.Prelude.{◌≤◌, ◌<◌, ◌+◌, suc, length, IfOk};
-ghost use Rattle.parse_meaning.specs.Reading as spec;
+ghost use Rattle.parse_reading.specs.Reading as spec;
+ghost use Rattle.parse_tokens.specs.Rooms.{depth_room};
 ghost use Rattle.parse_tokens.specs.Gives.{Gives, Low};
 
 use crate::terms::Terms;
@@ -19,7 +20,7 @@ pub fn expression(
     depth: usize,
     level: u8,
 ) -> Result<WithHeight<Expr>, ParseFault>
-    requires { depth < 1000 }
+    requires { depth < depth_room }
     ensures reads { Gives (spec.expression depth level tokens.old) result tokens.new }
     ensures low { IfOk result (λ x. x.height ≤ depth) }
     ensures on { IfOk result (λ _. length tokens.new < length tokens.old) }
@@ -43,7 +44,7 @@ pub fn bound(
     tokens: &mut Tokens<'_>,
     depth: usize,
 ) -> Result<WithHeight<Option<Boxed<Expr>>>, ParseFault>
-    requires { depth < 1000 }
+    requires { depth < depth_room }
     ensures reads { Gives (spec.bound (spec.expression depth) tokens.old) result tokens.new }
     ensures low { IfOk result (λ x. x.height ≤ depth) }
     ensures on { IfOk result (λ _. length tokens.new < length tokens.old) }
@@ -63,7 +64,7 @@ pub fn abstract_declarator(
     depth: usize,
     place: Place,
 ) -> Result<WithHeight<Declarator>, ParseFault>
-    requires { depth < 1000 }
+    requires { depth < depth_room }
     ensures reads { Gives (spec.abstract (spec.expression depth) (suc depth) place tokens.old) result tokens.new }
     ensures low { Low (depth + 1) result tokens.old tokens.new }
     ensures on { IfOk result (λ _. length tokens.new ≤ length tokens.old) }

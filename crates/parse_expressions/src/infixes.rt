@@ -2,7 +2,7 @@
 
 ghost use Rattle.std.specs.Prelude.{◌≡◌, ◌≤◌, ◌<◌, ◌+◌, Some, IfOk};
 ghost use Rattle.parse_meaning.specs.Terminals.{place_of};
-ghost use Rattle.parse_meaning.specs.Reading as spec;
+ghost use Rattle.parse_reading.specs.Reading as spec;
 ghost use Rattle.parse_tokens.specs.Gives.{Gives, GivesPart};
 ghost use Rattle.parse_operations.specs.LeftOperands.{GivesLeftOperand, as_left_operand};
 ghost use Rattle.parse_operations.specs.Operations.{FitsOperation};
@@ -12,16 +12,18 @@ ghost use Rattle.parse_expressions.specs.Operations.{bracketed, arguments_some, 
 use crate::terms::Terms;
 use c_tokens::Punct;
 use c_tree::Expr;
-use fc_base::{Place, both};
-use parse_meaning::{Operator, Terminal};
+use fc_base::Place;
+use parse_meaning::Terminal;
 use parse_operations::{LeftOperand, Operation, with_operation};
 use parse_operators::{ASSIGNMENT, CONDITIONAL, EXPRESSION, binds, operator_of, operator_takes};
+use parse_reading::Operator;
 use parse_tokens::{
     ParseFault, Tokens, WithHeight, before_colon, before_right_bracket, before_right_paren,
     copy_text, is_tag, kept,
 };
 use sqlite_items::Items;
 use std::alloc::Global;
+use tree_drops::{ExprItems, both};
 
 /// `b` or the like behind `.` or `->`.
 fn member_tail(alloc: Global, tokens: &mut Tokens<'_>, arrow: bool) -> Result<Operation, ParseFault>
@@ -63,7 +65,7 @@ impl<F: Fn(Global, &mut Tokens<'_>, usize, u8) -> Result<WithHeight<Expr>, Parse
         ensures reads { Gives (spec.exprs self.now.grammar.depth (spec.expression self.now.grammar.depth) turns tokens.old) result tokens.new }
         ensures low { IfOk result (λ x. x.height ≤ self.now.grammar.depth) }
     {
-        let mut trees = Items::new(self.grammar.alloc);
+        let mut trees = ExprItems::new(self.grammar.alloc);
         let mut height = 0;
         for _turn in 0..turns {
             let one = self.grammar.expression(tokens, ASSIGNMENT)?;
@@ -71,7 +73,7 @@ impl<F: Fn(Global, &mut Tokens<'_>, usize, u8) -> Result<WithHeight<Expr>, Parse
             height = height.max(one.height);
             if !tokens.take_comma() {
                 return Ok(WithHeight {
-                    tree: trees,
+                    tree: trees.finish(),
                     height,
                 });
             }
@@ -169,7 +171,7 @@ impl<F: Fn(Global, &mut Tokens<'_>, usize, u8) -> Result<WithHeight<Expr>, Parse
         }
     }
 
-    /// The same, if an expression of the level may go on so.
+    /// What stands behind a token of this role, if an expression of the level may go on with it.
     fn tail_behind(
         &self,
         tokens: &mut Tokens<'_>,
@@ -250,7 +252,7 @@ impl<F: Fn(Global, &mut Tokens<'_>, usize, u8) -> Result<WithHeight<Expr>, Parse
 
     /// An expression of the level or a tighter one, which has begun so; none where it has begun with a looser one. Each
     /// turn makes the tree a node higher, so no more are needed than it may be high.
-    #[tactic(auto, unfolding(parse_meaning::specs::Reading::begun))]
+    #[tactic(auto, unfolding(parse_reading::specs::Reading::begun))]
     pub fn begun(
         &self,
         tokens: &mut Tokens<'_>,

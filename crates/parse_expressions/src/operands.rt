@@ -7,7 +7,8 @@ ghost use Rattle.c_tree.specs.declared.nodes.ExprKind.TheVariants as e;
 ghost use Rattle.parse_meaning.specs.declared.terminals.Terminal.TheVariants as k;
 ghost use Rattle.parse_meaning.specs.Terminals.{Lexeme, at};
 ghost use Rattle.parse_meaning.specs.Expressions as grammar;
-ghost use Rattle.parse_meaning.specs.Reading as spec;
+ghost use Rattle.parse_reading.specs.Reading as spec;
+ghost use Rattle.parse_tokens.specs.Rooms.{height_room};
 ghost use Rattle.parse_tokens.specs.Gives.{Gives};
 ghost use Rattle.parse_operations.specs.LeftOperands.{GivesLeftOperand, as_left_operand};
 ghost use Rattle.parse_type_names.specs.Nests.{Nests};
@@ -16,14 +17,14 @@ ghost use Rattle.parse_expressions.specs.Openings.{opens_group, closed_type, con
 use crate::terms::Terms;
 use c_tokens::{Punct, Token, TokenKind};
 use c_tree::{Expr, ExprKind, PrefixOp, TypeName};
-use fc_base::{Place, both};
+use fc_base::Place;
 use parse_leaves::{boxed_behind, strings};
 use parse_meaning::{Keyword, Terminal};
 use parse_operations::{LeftOperand, boxed_pair};
 use parse_operators::{ASSIGNMENT, CAST, CONDITIONAL, EXPRESSION, POSTFIX, PRIMARY, UNARY};
 use parse_tokens::{ParseFault, Tokens, WithHeight, before_comma, before_right_paren, copy_text};
-use sqlite_items::Boxed;
 use std::alloc::{AllocError, Global};
+use tree_drops::{IntoBox, both};
 
 /// A unary operator, and the level of its operand (C11 6.5.3).
 fn prefix_operator(punct: Punct) -> Option<(PrefixOp, u8)>
@@ -63,8 +64,8 @@ fn cast(
     of: WithHeight<Expr>,
     place: Place,
 ) -> Result<LeftOperand, AllocError>
-    requires to { to.height < 2000 }
-    requires of { of.height < 2000 }
+    requires to { to.height < height_room }
+    requires of { of.height < height_room }
     ensures { IfOk result (λ x. x ≡ record { level = 3; tree = grammar.expr (e.Cast to.tree of.tree) place; height = suc (max to.height of.height) }) }
 {
     let height = to.height.max(of.height) + 1;
@@ -79,8 +80,8 @@ fn size_call(
     mode: WithHeight<Expr>,
     place: Place,
 ) -> Result<LeftOperand, AllocError>
-    requires pointer { pointer.height < 2000 }
-    requires mode { mode.height < 2000 }
+    requires pointer { pointer.height < height_room }
+    requires mode { mode.height < height_room }
     ensures { IfOk result (λ x. x ≡ record { level = 1; tree = grammar.expr (e.SizeCall pointer.tree mode.tree) place; height = suc (max pointer.height mode.height) }) }
 {
     let height = pointer.height.max(mode.height) + 1;
@@ -152,7 +153,7 @@ impl<F: Fn(Global, &mut Tokens<'_>, usize, u8) -> Result<WithHeight<Expr>, Parse
     }
 
     /// `sizeof a` behind the word (C11 6.5.3.4).
-    #[tactic(auto, unfolding(parse_meaning::specs::Reading::sized_expr))]
+    #[tactic(auto, unfolding(parse_reading::specs::Reading::sized_expr))]
     fn sized_expr(&self, tokens: &mut Tokens<'_>, place: Place) -> Result<LeftOperand, ParseFault>
         requires { Nests self.now.grammar.depth (F.pre self.now.grammar.expr) (F.post self.now.grammar.expr) }
         ensures reads { GivesLeftOperand (spec.sized_expr self.now.grammar.depth (spec.expression self.now.grammar.depth) place tokens.old) result tokens.new }
@@ -160,7 +161,7 @@ impl<F: Fn(Global, &mut Tokens<'_>, usize, u8) -> Result<WithHeight<Expr>, Parse
     {
         let of = self.grammar.expression(tokens, UNARY)?;
         let height = of.height + 1;
-        let of = Boxed::new(self.grammar.alloc, of.tree)?;
+        let of = Expr::boxed(self.grammar.alloc, of.tree)?;
         Ok(LeftOperand::new(UNARY, ExprKind::SizeofExpr(of), place, height))
     }
 
@@ -220,7 +221,7 @@ impl<F: Fn(Global, &mut Tokens<'_>, usize, u8) -> Result<WithHeight<Expr>, Parse
     }
 
     /// `-a` behind its operator (C11 6.5.3).
-    #[tactic(auto, unfolding(parse_meaning::specs::Reading::prefixed_by))]
+    #[tactic(auto, unfolding(parse_reading::specs::Reading::prefixed_by))]
     fn prefixed(
         &self,
         tokens: &mut Tokens<'_>,
@@ -235,7 +236,7 @@ impl<F: Fn(Global, &mut Tokens<'_>, usize, u8) -> Result<WithHeight<Expr>, Parse
             Some((op, level)) => {
                 let of = self.grammar.expression(tokens, level)?;
                 let height = of.height + 1;
-                let of = Boxed::new(self.grammar.alloc, of.tree)?;
+                let of = Expr::boxed(self.grammar.alloc, of.tree)?;
                 Ok(LeftOperand::new(UNARY, ExprKind::Prefix { op, of }, place, height))
             }
             None => Err(ParseFault::NoDerivation),
@@ -243,7 +244,7 @@ impl<F: Fn(Global, &mut Tokens<'_>, usize, u8) -> Result<WithHeight<Expr>, Parse
     }
 
     /// What an expression begins with, but for a parenthesis round an expression.
-    #[tactic(auto, unfolding(parse_meaning::specs::Reading::prefix))]
+    #[tactic(auto, unfolding(parse_reading::specs::Reading::prefix))]
     fn operand(&self, tokens: &mut Tokens<'_>) -> Result<LeftOperand, ParseFault>
         requires nests { Nests self.now.grammar.depth (F.pre self.now.grammar.expr) (F.post self.now.grammar.expr) }
         requires plain { opens_group tokens.old ≡ false }
@@ -271,7 +272,7 @@ impl<F: Fn(Global, &mut Tokens<'_>, usize, u8) -> Result<WithHeight<Expr>, Parse
     }
 
     /// `(a)`, where what stands behind the bracket has begun so (C11 6.5.1).
-    #[tactic(auto, unfolding(parse_meaning::specs::Reading::parenthesised))]
+    #[tactic(auto, unfolding(parse_reading::specs::Reading::parenthesised))]
     fn parenthesised(
         &self,
         tokens: &mut Tokens<'_>,

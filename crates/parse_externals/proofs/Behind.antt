@@ -8,10 +8,10 @@ use Rattle.c_tree.specs.declared.externals.External.TheVariants as x
 use Rattle.parse_meaning.specs.declared.terminals.Terminal.TheVariants as k
 use Rattle.parse_meaning.specs.Terminals.{Lexeme, at, place_of}
 use Rattle.parse_meaning.specs.File.{type_names}
-use Rattle.parse_meaning.specs.Reading.{Read, found, bounded, Specs, expression}
-use Rattle.parse_meaning.specs.ReadingDeclarators.{Named, declarator}
-use Rattle.parse_meaning.specs.ReadingStatements.{NamedInits, initialiser, items, statement}
-use Rattle.parse_meaning.specs.ReadingFile.{NamedExternal, as_external, declaration, declared, body, body_or}
+use Rattle.parse_reading.specs.Reading.{Read, found, bounded, Specs, expression}
+use Rattle.parse_reading.specs.ReadingDeclarators.{Named, declarator}
+use Rattle.parse_reading.specs.ReadingStatements.{NamedInits, initialiser, items, statement}
+use Rattle.parse_reading.specs.ReadingFile.{NamedExternal, as_external, declaration, declared, body, body_or}
 use Rattle.parse_initialisers.specs.Readers.{init_declarators_from, locals}
 use Rattle.parse_initialisers.proofs.InitDeclarators.{from_first}
 use Rattle.parse_externals.specs.Externals.{brace_at, declared_from}

@@ -6,12 +6,12 @@ use Rattle.c_tree.specs.declared.externals.External.TheVariants as x
 use Rattle.parse_meaning.specs.declared.terminals.Terminal.TheVariants as k
 use Rattle.parse_meaning.specs.Terminals.{Lexeme, at}
 use Rattle.parse_meaning.specs.File.{type_names}
-use Rattle.parse_meaning.specs.Reading.{Read, ◌>>=◌, found, bounded, Specs}
-use Rattle.parse_meaning.specs.ReadingDeclarators as g
-use Rattle.parse_meaning.specs.ReadingDeclarators.{declarator}
-use Rattle.parse_meaning.specs.ReadingStatements.{initialiser}
-use Rattle.parse_meaning.specs.ReadingFile as r
-use Rattle.parse_meaning.specs.ReadingFile.{as_external}
+use Rattle.parse_reading.specs.Reading.{Read, ◌>>=◌, found, bounded, Specs}
+use Rattle.parse_reading.specs.ReadingDeclarators as g
+use Rattle.parse_reading.specs.ReadingDeclarators.{declarator}
+use Rattle.parse_reading.specs.ReadingStatements.{initialiser}
+use Rattle.parse_reading.specs.ReadingFile as r
+use Rattle.parse_reading.specs.ReadingFile.{as_external}
 use Rattle.parse_initialisers.specs.Readers.{init_declarators_from}
 use Rattle.parse_externals.specs.declared.externals.NamedExternal.{NamedExternal}
 

@@ -1,10 +1,12 @@
 //! External declarations (C11 6.9).
 
 ghost use Rattle.std.specs.Prelude.{◌≡◌, ◌<◌, ◌≤◌, ◌+◌, ◌*◌, ◌^◌, suc, max, [], List, map, IfOk, IfErr};
+ghost use Rattle.c_headers.specs.Headers.{type_view};
 ghost use Rattle.parse_meaning.specs.Terminals.{Lexeme, header_types};
 ghost use Rattle.parse_meaning.specs.File.{type_names};
-ghost use Rattle.parse_meaning.specs.Reading.{bounded, found};
-ghost use Rattle.parse_meaning.specs.ReadingFile as spec;
+ghost use Rattle.parse_reading.specs.Reading.{bounded, found};
+ghost use Rattle.parse_reading.specs.ReadingFile as spec;
+ghost use Rattle.parse_tokens.specs.Rooms.{depth_room};
 ghost use Rattle.parse_tokens.specs.Gives.{GivesAs};
 ghost use Rattle.parse_tokens.specs.declared.faults.ParseFault.TheVariants as fault;
 ghost use Rattle.parse_leaves.specs.Counts.{specs_of, tally_of};
@@ -12,9 +14,10 @@ ghost use Rattle.parse_declarators.specs.Named.{named_of};
 ghost use Rattle.parse_initialisers.specs.Declarations.{declared_of};
 ghost use Rattle.parse_externals.specs.Externals.{brace_at, declared_from, external_of};
 
+use c_headers::HeaderType;
 use c_tokens::{HeaderId, Punct, Token, TokenKind};
 use c_tree::{Declarator, External, InitDeclarator, Stmt};
-use fc_base::{NoMemory, Place, Text, both};
+use fc_base::{NoMemory, Place, Text};
 use parse_aggregates::outer_specs;
 use parse_declarators::{Named, declarator};
 use parse_initialisers::{Declared, NamedInits, init_declarators};
@@ -24,6 +27,7 @@ use parse_statements::block_items;
 use parse_tokens::{ParseFault, Tokens, WithHeight, kept};
 use sqlite_items::Items;
 use std::alloc::Global;
+use tree_drops::{LetGo, both};
 
 /// An external declaration, and the names of types that it makes.
 #[derive(Drop)]
@@ -32,30 +36,28 @@ pub struct NamedExternal {
     pub names: Items<Text>,
 }
 
-/// The names of types that the declarations of a header make (C11 7.19, 7.20; POSIX).
-fn header_types(id: HeaderId) -> &'static [&'static str]
-    ensures { map (λ name. name.now) result.now ≡ header_types id }
-{
-    match id {
-        HeaderId::Strings => &[],
-        HeaderId::String | HeaderId::Stdio | HeaderId::Stdlib => &["size_t"],
-        HeaderId::Stddef => &["size_t", "ptrdiff_t"],
-        HeaderId::Stdint => &[
-            "int8_t", "int16_t", "int32_t", "int64_t", "uint8_t", "uint16_t", "uint32_t",
-            "uint64_t",
-        ],
-        HeaderId::Unistd => &["size_t", "ssize_t"],
+impl LetGo for NamedExternal {
+    fn let_go(self) {
+        self.tree.let_go();
+        self.names.let_go();
     }
 }
 
-fn copies(alloc: Global, texts: &[&str]) -> Result<Items<Text>, NoMemory>
-    ensures { IfOk result (λ copies. copies ≡ map (λ text. text.now) texts.now) }
+fn names_of_types(alloc: Global, types: &[HeaderType]) -> Result<Items<Text>, NoMemory>
+    ensures { IfOk result (λ names. names ≡ map (λ t. (type_view t).name) types.now) }
 {
-    let mut copies = Items::new(alloc);
-    for text in texts {
-        copies.push(Text::from_bytes(alloc, text.as_bytes())?)?;
+    let mut names = Items::new(alloc);
+    for t in types {
+        names.push(Text::from_bytes(alloc, t.name.as_bytes())?)?;
     }
-    Ok(copies)
+    Ok(names)
+}
+
+/// The names of types that the declarations of a header make.
+fn header_types(alloc: Global, header: HeaderId) -> Result<Items<Text>, NoMemory>
+    ensures { IfOk result (λ names. names ≡ header_types header) }
+{
+    names_of_types(alloc, header.types())
 }
 
 /// The inclusion of a header that the token is.
@@ -63,16 +65,19 @@ fn header(alloc: Global, token: &Token) -> Result<WithHeight<NamedExternal>, Par
     ensures { (t : List Lexeme) → GivesAs external_of (spec.header_read token.now.kind token.now.place t) result t }
 {
     match &token.kind {
-        TokenKind::Header(id) => Ok(WithHeight {
-            tree: NamedExternal {
-                tree: External::Header {
-                    id: *id,
-                    place: token.place,
+        TokenKind::Header(id) => {
+            let names = header_types(alloc, *id)?;
+            Ok(WithHeight {
+                tree: NamedExternal {
+                    tree: External::Header {
+                        id: *id,
+                        place: token.place,
+                    },
+                    names,
                 },
-                names: copies(alloc, header_types(*id))?,
-            },
-            height: 1,
-        }),
+                height: 1,
+            })
+        }
         _ => Err(ParseFault::NoDerivation),
     }
 }
@@ -110,7 +115,7 @@ fn within(
     names: Items<Text>,
     depth: usize,
 ) -> Result<WithHeight<NamedExternal>, ParseFault>
-    requires { depth < 1000 }
+    requires { depth < depth_room }
     ensures { (t : List Lexeme) → GivesAs external_of (bounded (suc depth) (found (spec.as_external declaration.tree names) declaration.height t)) result t }
 {
     let is_low = declaration.height <= depth + 1;
@@ -137,7 +142,7 @@ fn declaration_of(
     WithHeight {
         height: specs.height.max(declarators.height) + 1,
         tree: External::Declaration {
-            specs: specs.tree.specs,
+            specs: specs.tree.specs.finish(),
             declarators: declarators.tree,
             place,
         },
@@ -154,7 +159,7 @@ fn declared<'a>(
     place: Place,
     turns: usize,
 ) -> Result<WithHeight<NamedExternal>, ParseFault>
-    requires few { depth < 999 }
+    requires few { depth + 1 < depth_room }
     requires specs_low { specs.height ≤ depth + 2 ^ 63 }
     requires first_low { first.height ≤ depth + 2 ^ 63 }
     ensures { GivesAs external_of (declared_from depth place (specs_of specs.tree) specs.height turns (named_of first.entry.tree) first.entry.height tokens.old) result tokens.new }
@@ -164,7 +169,7 @@ fn declared<'a>(
     let NamedInits { trees, declared } = tree;
     let names = type_names(alloc, specs.tree.tally, declared.as_slice());
     let declarators = WithHeight {
-        tree: trees,
+        tree: trees.finish(),
         height,
     };
     let declaration = declaration_of(specs, declarators, place);
@@ -188,7 +193,7 @@ fn function_of(
     WithHeight {
         height: specs.height.max(declarator.height.max(items.height + 1)) + 1,
         tree: External::Function {
-            specs: specs.tree.specs,
+            specs: specs.tree.specs.finish(),
             declarator: declarator.tree,
             body: Stmt::Block {
                 items: items.tree,
@@ -209,7 +214,7 @@ fn function<'a>(
     place: Place,
     start: Place,
 ) -> Result<WithHeight<NamedExternal>, ParseFault>
-    requires few { depth < 999 }
+    requires few { depth + 1 < depth_room }
     requires specs_low { specs.height ≤ depth + 2 ^ 63 }
     requires first_low { first.height ≤ depth + 2 ^ 63 }
     ensures { GivesAs external_of (spec.body depth place (found (specs_of specs.tree) specs.height tokens.old) (found (named_of first.entry.tree) first.entry.height tokens.old) start tokens.old) result tokens.new }
@@ -253,7 +258,7 @@ fn declaration(
     specs: WithHeight<SpecList>,
     place: Place,
 ) -> Result<WithHeight<NamedExternal>, ParseFault>
-    requires few { depth < 999 }
+    requires few { depth + 1 < depth_room }
     requires specs_low { specs.height ≤ depth + 2 ^ 63 }
     ensures { GivesAs external_of (spec.declaration depth place (found (specs_of specs.tree) specs.height tokens.old) tokens.old) result tokens.new }
 {
@@ -275,13 +280,13 @@ fn undeclared(
     specs: WithHeight<SpecList>,
     place: Place,
 ) -> Result<WithHeight<NamedExternal>, ParseFault>
-    requires few { depth < 999 }
+    requires few { depth + 1 < depth_room }
     requires specs_low { specs.height ≤ depth + 2 ^ 63 }
     ensures { (t : List Lexeme) → GivesAs external_of (bounded (suc depth) (found (spec.as_external (External.Declaration specs.tree.specs [] place) []) (suc specs.height) t)) result t }
 {
     let declaration = WithHeight {
         tree: External::Declaration {
-            specs: specs.tree.specs,
+            specs: specs.tree.specs.finish(),
             declarators: Items::new(alloc),
             place,
         },
@@ -290,13 +295,13 @@ fn undeclared(
     within(declaration, Items::new(alloc), depth)
 }
 
-#[tactic(auto, unfolding(parse_meaning::specs::ReadingFile::specified))]
+#[tactic(auto, unfolding(parse_reading::specs::ReadingFile::specified))]
 fn specified(
     alloc: Global,
     tokens: &mut Tokens<'_>,
     depth: usize,
 ) -> Result<WithHeight<NamedExternal>, ParseFault>
-    requires { depth < 999 }
+    requires { depth + 1 < depth_room }
     ensures { GivesAs external_of (spec.specified depth tokens.old) result tokens.new }
 {
     let place = tokens.place();
@@ -316,7 +321,7 @@ pub fn external(
     tokens: &mut Tokens<'_>,
     depth: usize,
 ) -> Result<WithHeight<NamedExternal>, ParseFault>
-    requires { depth < 999 }
+    requires { depth + 1 < depth_room }
     ensures { GivesAs external_of (spec.external depth tokens.old) result tokens.new }
 {
     match tokens.peek() {

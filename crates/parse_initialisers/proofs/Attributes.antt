@@ -4,8 +4,8 @@ use Rattle.c_tree.specs.declared.nodes.Attribute.{Attribute}
 use Rattle.parse_meaning.specs.declared.terminals.Keyword.TheVariants as w
 use Rattle.parse_meaning.specs.declared.terminals.Terminal.TheVariants as k
 use Rattle.parse_meaning.specs.Terminals.{Lexeme, at}
-use Rattle.parse_meaning.specs.Reading.{◌>>=◌, attribute_list}
-use Rattle.parse_meaning.specs.ReadingStatements.{attribute_lists, lists_by}
+use Rattle.parse_reading.specs.Reading.{◌>>=◌, attribute_list}
+use Rattle.parse_reading.specs.ReadingStatements.{attribute_lists, lists_by}
 use Rattle.parse_leaves.proofs.AttributeSteps.{before, before_before, before_end}
 use Rattle.parse_initialisers.specs.Readers.{attribute_at}
 

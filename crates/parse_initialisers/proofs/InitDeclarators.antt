@@ -7,9 +7,9 @@ use Rattle.c_tree.specs.declared.statements.InitDeclarator.{InitDeclarator}
 use Rattle.parse_meaning.specs.declared.terminals.Terminal.TheVariants as k
 use Rattle.parse_meaning.specs.Terminals.{Lexeme, at}
 use Rattle.parse_meaning.specs.Expressions.{Declared}
-use Rattle.parse_meaning.specs.Reading.{Read, ◌>>=◌, found}
-use Rattle.parse_meaning.specs.ReadingDeclarators.{Named}
-use Rattle.parse_meaning.specs.ReadingStatements.{NamedInit, NamedInits, as_init, attribute_lists, initialised, init_behind, init_declarator, init_declarators, init_declarators_behind, with_init}
+use Rattle.parse_reading.specs.Reading.{Read, ◌>>=◌, found}
+use Rattle.parse_reading.specs.ReadingDeclarators.{Named}
+use Rattle.parse_reading.specs.ReadingStatements.{NamedInit, NamedInits, as_init, attribute_lists, initialised, init_behind, init_declarator, init_declarators, init_declarators_behind, with_init}
 use Rattle.parse_lists.specs.Ends.{declarators_end_at}
 use Rattle.parse_initialisers.specs.Readers.{init_some, init_at, init_declarator_from, init_declarators_from}
 

@@ -4,8 +4,8 @@ use Rattle.c_tokens.specs.declared.puncts.Punct.TheVariants as p
 use Rattle.c_tree.specs.declared.statements.Init.{Init}
 use Rattle.parse_meaning.specs.declared.terminals.Terminal.TheVariants as k
 use Rattle.parse_meaning.specs.Terminals.{Lexeme, at}
-use Rattle.parse_meaning.specs.Reading.{Read, ◌>>=◌}
-use Rattle.parse_meaning.specs.ReadingStatements.{inits, inits_behind, inits_comma}
+use Rattle.parse_reading.specs.Reading.{Read, ◌>>=◌}
+use Rattle.parse_reading.specs.ReadingStatements.{inits, inits_behind, inits_comma}
 use Rattle.parse_tokens.proofs.Binds.{bind_each}
 use Rattle.parse_lists.specs.Ends.{enumerators_end_at, body_end_at}
 use Rattle.parse_lists.proofs.Lists.{ListOf, ended}

@@ -5,9 +5,9 @@ use Rattle.c_tree.specs.declared.statements.Init.{Init}
 use Rattle.parse_meaning.specs.Terminals.{Lexeme}
 use Rattle.parse_meaning.specs.Specifiers.{block}
 use Rattle.parse_meaning.specs.Statements.{are_objects}
-use Rattle.parse_meaning.specs.Reading.{Read, found, Specs, plain_spec, specs_in}
-use Rattle.parse_meaning.specs.ReadingDeclarators.{Named}
-use Rattle.parse_meaning.specs.ReadingStatements.{NamedInits, local}
+use Rattle.parse_reading.specs.Reading.{Read, found, Specs, plain_spec, specs_in}
+use Rattle.parse_reading.specs.ReadingDeclarators.{Named}
+use Rattle.parse_reading.specs.ReadingStatements.{NamedInits, local}
 use Rattle.parse_initialisers.specs.Readers.{init_declarators_from}
 use Rattle.parse_initialisers.proofs.InitDeclarators.{from_first, no_first}
 

@@ -3,7 +3,7 @@ use Rattle.std.proofs.Common.{◌≡◌, ◌≢◌, List, Option, Some, None, sy
 use Rattle.std.specs.Prelude.{Result, Ok, Err, Bool, true, false, IfOk, IfErr, if◌then◌else◌}
 use Rattle.std.specs.Result.{IsErrAnd}
 use Rattle.parse_meaning.specs.Terminals.{Lexeme}
-use Rattle.parse_meaning.specs.Reading.{Read, found}
+use Rattle.parse_reading.specs.Reading.{Read, found}
 use Rattle.parse_tokens.specs.Gives.{GivesAs}
 use Rattle.parse_tokens.specs.declared.faults.ParseFault.{ParseFault}
 use Rattle.parse_tokens.specs.declared.faults.ParseFault.TheVariants as fault

@@ -1,7 +1,7 @@
 -- What functions that read declarations ensure.
 use Rattle.std.specs.Prelude.{map}
 use Rattle.parse_meaning.specs.Expressions as g
-use Rattle.parse_meaning.specs.ReadingStatements as spec
+use Rattle.parse_reading.specs.ReadingStatements as spec
 use Rattle.parse_declarators.specs.Named.{nearest_of}
 use Rattle.parse_initialisers.specs.declared.declarations.Declared.{Declared}
 use Rattle.parse_initialisers.specs.declared.declarations.NamedInit.{NamedInit}

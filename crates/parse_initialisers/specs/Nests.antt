@@ -3,7 +3,8 @@ use Rattle.std.specs.Prelude.{ℕ, ◌<◌, ◌+◌, List, Option, Result}
 use Rattle.std.specs.declared.alloc.Global.{Global}
 use denote.Ref.{MutBor}
 use Rattle.parse_meaning.specs.Terminals.{Lexeme}
-use Rattle.parse_meaning.specs.Reading.{Read}
+use Rattle.parse_reading.specs.Reading.{Read}
+use Rattle.parse_tokens.specs.Rooms.{depth_room}
 use Rattle.parse_tokens.specs.Gives.{Gives}
 use Rattle.parse_tokens.specs.declared.faults.ParseFault.{ParseFault}
 use Rattle.parse_tokens.specs.declared.faults.WithHeight.{WithHeight}
@@ -16,4 +17,4 @@ pub record Nests {A : Type 0} (read : ℕ → List Lexeme → Option (Read A)) (
       → Gives (read depth old.now) r new.now
   pub low : (alloc : Global) (old new : MutBor (List Lexeme)) (r : Result (WithHeight A) ParseFault) → post alloc old depth r new
       → Within depth r
-  pub few : depth + 1 < 1000
+  pub few : depth + 1 < depth_room

@@ -5,10 +5,10 @@ use Rattle.c_tree.specs.declared.statements.Init.{Init}
 use Rattle.parse_meaning.specs.declared.terminals.Keyword.TheVariants as w
 use Rattle.parse_meaning.specs.declared.terminals.Terminal.TheVariants as k
 use Rattle.parse_meaning.specs.Terminals.{Lexeme, at}
-use Rattle.parse_meaning.specs.Reading.{Read, ◌>>=◌, found}
-use Rattle.parse_meaning.specs.ReadingDeclarators.{declarator, Named}
-use Rattle.parse_meaning.specs.ReadingStatements as r
-use Rattle.parse_meaning.specs.ReadingStatements.{initialiser, as_init, attribute_lists, init_declarators, init_declarators_behind, NamedInit, NamedInits, Local}
+use Rattle.parse_reading.specs.Reading.{Read, ◌>>=◌, found}
+use Rattle.parse_reading.specs.ReadingDeclarators.{declarator, Named}
+use Rattle.parse_reading.specs.ReadingStatements as r
+use Rattle.parse_reading.specs.ReadingStatements.{initialiser, as_init, attribute_lists, init_declarators, init_declarators_behind, NamedInit, NamedInits, Local}
 use Rattle.parse_tokens.specs.declared.faults.ParseFault.{ParseFault}
 use Rattle.parse_tokens.specs.declared.faults.WithHeight.{WithHeight}
 

@@ -2,8 +2,9 @@
 
 ghost use Rattle.std.specs.Prelude.{◌≡◌, ◌<◌, ◌≤◌, ◌+◌, ◌*◌, ◌^◌, max, length, map};
 ghost use Rattle.parse_meaning.specs.Statements.{are_objects, is_object};
-ghost use Rattle.parse_meaning.specs.ReadingDeclarators.{declarator};
-ghost use Rattle.parse_meaning.specs.ReadingStatements as spec;
+ghost use Rattle.parse_reading.specs.ReadingDeclarators.{declarator};
+ghost use Rattle.parse_reading.specs.ReadingStatements as spec;
+ghost use Rattle.parse_tokens.specs.Rooms.{depth_room};
 ghost use Rattle.parse_tokens.specs.Gives.{Gives, GivesAs, GivesPart};
 ghost use Rattle.parse_declarators.specs.Named.{named_of, nearest_of};
 ghost use Rattle.parse_initialisers.specs.Declarations.{declared_of, init_of, inits_of, local_of};
@@ -12,7 +13,6 @@ ghost use Rattle.parse_initialisers.specs.Readers.{Within, attribute_at, init_at
 use crate::initialisers::initialiser;
 use c_tokens::Punct;
 use c_tree::{Attribute, Init, InitDeclarator, Spec};
-use fc_base::both;
 use parse_declarators::{Named, Nearest, declarator};
 use parse_leaves::{Context, SpecList, attribute_list, plain_specs};
 use parse_lists::take_declarators_end;
@@ -20,6 +20,7 @@ use parse_meaning::{Keyword, Terminal};
 use parse_tokens::{ParseFault, Tokens, WithHeight, kept};
 use sqlite_items::Items;
 use std::alloc::Global;
+use tree_drops::{InitDeclaratorItems, LetGo, both};
 
 /// A name that is declared, and what stands nearest to it in its declarator.
 #[derive(Clone, Copy)]
@@ -38,7 +39,7 @@ pub struct NamedInit<'a> {
 /// Several of them in order.
 #[derive(Drop)]
 pub struct NamedInits<'a> {
-    pub trees: Items<InitDeclarator>,
+    pub trees: InitDeclaratorItems,
     pub declared: Items<Declared<'a>>,
 }
 
@@ -47,6 +48,13 @@ pub struct NamedInits<'a> {
 pub struct Local {
     pub specs: Items<Spec>,
     pub declarators: Items<InitDeclarator>,
+}
+
+impl LetGo for Local {
+    fn let_go(self) {
+        self.specs.let_go();
+        self.declarators.let_go();
+    }
 }
 
 /// Takes `__attribute__`, if it comes next.
@@ -91,7 +99,7 @@ fn init_part(
     tokens: &mut Tokens<'_>,
     depth: usize,
 ) -> Result<WithHeight<Option<Init>>, ParseFault>
-    requires { depth < 1000 }
+    requires { depth < depth_room }
     ensures reads { Gives (init_at (spec.initialiser depth) tokens.old) result tokens.new }
     ensures low { Within depth result }
 {
@@ -145,7 +153,7 @@ fn init_declarator<'a>(
     depth: usize,
     first: WithHeight<Named<'a>>,
 ) -> Result<WithHeight<NamedInit<'a>>, ParseFault>
-    requires few { depth < 1000 }
+    requires few { depth < depth_room }
     requires low { first.height ≤ 2 * depth + 2 ^ 63 }
     ensures reads { GivesAs init_of (init_declarator_from (declarator depth) (spec.initialiser depth) (named_of first.entry.tree) first.entry.height tokens.old) result tokens.new }
     ensures low { Within depth result }
@@ -166,13 +174,13 @@ pub fn init_declarators<'a>(
     first: WithHeight<Named<'a>>,
     turns: usize,
 ) -> Result<WithHeight<NamedInits<'a>>, ParseFault>
-    requires few { depth < 1000 }
+    requires few { depth < depth_room }
     requires low { first.height ≤ 2 * depth + 2 ^ 63 }
     ensures reads { GivesAs inits_of (init_declarators_from (declarator depth) (spec.initialiser depth) turns (named_of first.entry.tree) first.entry.height tokens.old) result tokens.new }
     ensures low { Within depth result }
 {
     let mut found = NamedInits {
-        trees: Items::new(alloc),
+        trees: InitDeclaratorItems::new(alloc),
         declared: Items::new(alloc),
     };
     let mut height = 0;
@@ -191,6 +199,7 @@ pub fn init_declarators<'a>(
         }
         named = declarator(alloc, tokens, depth)?;
     }
+    named.let_go();
     Err(ParseFault::NoDerivation)
 }
 
@@ -222,20 +231,20 @@ fn as_local(
     WithHeight {
         height: specs.height.max(declarators.height),
         tree: Local {
-            specs: specs.tree.specs,
+            specs: specs.tree.specs.finish(),
             declarators: declarators.tree,
         },
     }
 }
 
 /// A declaration in a block or in the head of a `for`, up to and with its semicolon.
-#[tactic(auto, unfolding(parse_meaning::specs::ReadingStatements::local))]
+#[tactic(auto, unfolding(parse_reading::specs::ReadingStatements::local))]
 pub fn local_declaration(
     alloc: Global,
     tokens: &mut Tokens<'_>,
     depth: usize,
 ) -> Result<WithHeight<Local>, ParseFault>
-    requires { depth < 1000 }
+    requires { depth < depth_room }
     ensures reads { GivesAs local_of (locals depth tokens.old) result tokens.new }
     ensures low { Within depth result }
 {
@@ -248,7 +257,7 @@ pub fn local_declaration(
     let NamedInits { trees, declared } = tree;
     let holds = are_objects(declared.as_slice());
     let declarators = WithHeight {
-        tree: trees,
+        tree: trees.finish(),
         height,
     };
     let local = as_local(specs, declarators);

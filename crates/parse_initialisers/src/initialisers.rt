@@ -2,8 +2,9 @@
 
 ghost use Rattle.std.specs.Prelude.{◌+◌, ◌<◌, length};
 ghost use Rattle.parse_meaning.specs.Expressions.{assignment};
-ghost use Rattle.parse_meaning.specs.Reading.{expression};
-ghost use Rattle.parse_meaning.specs.ReadingStatements as spec;
+ghost use Rattle.parse_reading.specs.Reading.{expression};
+ghost use Rattle.parse_reading.specs.ReadingStatements as spec;
+ghost use Rattle.parse_tokens.specs.Rooms.{depth_room};
 ghost use Rattle.parse_tokens.specs.Gives.{Gives};
 ghost use Rattle.parse_initialisers.specs.Nests.{Nests};
 ghost use Rattle.parse_initialisers.specs.Readers.{Within};
@@ -18,6 +19,7 @@ use parse_operators::ASSIGNMENT;
 use parse_tokens::{ParseFault, Tokens, WithHeight};
 use sqlite_items::Items;
 use std::alloc::Global;
+use tree_drops::InitItems;
 
 /// Initialisers whose parts in braces are read by `deep`, to the depth.
 #[derive(Clone, Copy)]
@@ -34,7 +36,7 @@ impl<F: Fn(Global, &mut Tokens<'_>, usize) -> Result<WithHeight<Init>, ParseFaul
         requires { Nests spec.initialiser self.now.depth (F.pre self.now.deep) (F.post self.now.deep) }
         ensures reads { Gives (spec.initialiser self.now.depth tokens.old) result tokens.new }
         ensures low { Within self.now.depth result }
-        ensures few { self.now.depth + 1 < 1000 }
+        ensures few { self.now.depth + 1 < depth_room }
     {
         (self.deep)(self.alloc, tokens, self.depth)
     }
@@ -45,7 +47,7 @@ impl<F: Fn(Global, &mut Tokens<'_>, usize) -> Result<WithHeight<Init>, ParseFaul
         ensures reads { Gives (spec.inits (spec.initialiser self.now.depth) (length tokens.old) tokens.old) result tokens.new }
         ensures low { Within self.now.depth result }
     {
-        let mut trees = Items::new(self.alloc);
+        let mut trees = InitItems::new(self.alloc);
         let mut height = 0;
         for _turn in 0..tokens.left() {
             let next = self.sub(tokens)?;
@@ -53,7 +55,7 @@ impl<F: Fn(Global, &mut Tokens<'_>, usize) -> Result<WithHeight<Init>, ParseFaul
             height = height.max(next.height);
             if take_enumerators_end(tokens)? {
                 return Ok(WithHeight {
-                    tree: trees,
+                    tree: trees.finish(),
                     height,
                 });
             }
@@ -61,7 +63,7 @@ impl<F: Fn(Global, &mut Tokens<'_>, usize) -> Result<WithHeight<Init>, ParseFaul
         Err(ParseFault::NoDerivation)
     }
 
-    #[tactic(auto, unfolding(parse_meaning::specs::ReadingStatements::init_list))]
+    #[tactic(auto, unfolding(parse_reading::specs::ReadingStatements::init_list))]
     fn list(&self, tokens: &mut Tokens<'_>, place: Place) -> Result<WithHeight<Init>, ParseFault>
         requires { Nests spec.initialiser self.now.depth (F.pre self.now.deep) (F.post self.now.deep) }
         ensures reads { Gives (spec.init_list (spec.initialiser self.now.depth) (expression (self.now.depth + 1)) place tokens.old) result tokens.new }
@@ -77,7 +79,7 @@ impl<F: Fn(Global, &mut Tokens<'_>, usize) -> Result<WithHeight<Init>, ParseFaul
         })
     }
 
-    #[tactic(auto, unfolding(parse_meaning::specs::ReadingStatements::init_expr))]
+    #[tactic(auto, unfolding(parse_reading::specs::ReadingStatements::init_expr))]
     fn expr(&self, tokens: &mut Tokens<'_>) -> Result<WithHeight<Init>, ParseFault>
         requires { Nests spec.initialiser self.now.depth (F.pre self.now.deep) (F.post self.now.deep) }
         ensures reads { Gives (spec.init_expr (spec.initialiser self.now.depth) (expression (self.now.depth + 1)) tokens.old) result tokens.new }
@@ -112,7 +114,7 @@ pub fn initialiser(
     tokens: &mut Tokens<'_>,
     depth: usize,
 ) -> Result<WithHeight<Init>, ParseFault>
-    requires { depth < 1000 }
+    requires { depth < depth_room }
     ensures reads { Gives (spec.initialiser depth tokens.old) result tokens.new }
     ensures low { Within depth result }
 {

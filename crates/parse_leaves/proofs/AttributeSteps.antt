@@ -10,7 +10,7 @@ use Rattle.parse_meaning.specs.declared.terminals.Terminal.{Terminal}
 use Rattle.parse_meaning.specs.declared.terminals.Terminal.TheVariants as k
 use Rattle.parse_meaning.specs.Terminals.{Lexeme, at}
 use Rattle.parse_meaning.specs.Expressions.{opening, closing}
-use Rattle.parse_meaning.specs.Reading.{◌>>=◌, same_brackets, with_token, balanced_by, balanced_as, balanced, attribute, attributes_behind, attributes, after_comma, after_right_paren}
+use Rattle.parse_reading.specs.Reading.{◌>>=◌, same_brackets, with_token, balanced_by, balanced_as, balanced, attribute, attributes_behind, attributes, after_comma, after_right_paren}
 use Rattle.parse_leaves.specs.declared.attributes.Side.{Side}
 use Rattle.parse_leaves.specs.declared.attributes.Side.TheVariants.{Opens, Closes, Neither}
 use Rattle.parse_leaves.specs.Sides.{side_by, side_of}

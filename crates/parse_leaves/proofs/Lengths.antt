@@ -11,11 +11,11 @@ use Rattle.parse_meaning.specs.declared.terminals.Terminal.TheVariants as k
 use Rattle.parse_meaning.specs.Terminals.{Lexeme, at}
 use Rattle.parse_meaning.specs.Expressions as g
 use Rattle.parse_meaning.specs.Expressions.{IsAttributeList}
-use Rattle.parse_meaning.specs.Reading.{Read, expression, bound, abstract, attribute_list}
-use Rattle.parse_meaning.proofs.Basics.{weaken}
+use Rattle.parse_reading.specs.Reading.{Read, expression, bound, abstract, attribute_list}
+use Rattle.parse_reading.proofs.Basics.{weaken}
 use Rattle.parse_meaning.proofs.Alone.{alike_length, alike_shorter, expr_moves, bound_moves, abstract_moves, attributes_move}
-use Rattle.parse_meaning.proofs.SoundParts.{attribute_list_sound}
-use Rattle.parse_meaning.proofs.Sound.{expression_sound, bound_sound, abstract_sound}
+use Rattle.parse_reading.proofs.SoundParts.{attribute_list_sound}
+use Rattle.parse_reading.proofs.Sound.{expression_sound, bound_sound, abstract_sound}
 use Rattle.parse_tokens.specs.declared.faults.ParseFault.{ParseFault}
 use Rattle.parse_tokens.specs.declared.faults.WithHeight.{WithHeight}
 use Rattle.parse_tokens.specs.Gives.{Gives, GivesPart}
@@ -51,7 +51,7 @@ pub record PartShorter {A : Type 0} (s : List Lexeme) (x : A × List Lexeme) : T
 pub attribute_list_shorter : (s : List Lexeme) → IfSome (attribute_list s) (PartShorter s)
 attribute_list_shorter s = weaken _ _ (attribute_list s) (attribute_list_sound some_token s) (λ x d. record { shorter = list_within some_token s x.1 x.0 d })
 
--- ---- The same of what code gives
+-- ---- Lengths behind what code gives
 
 pub shorter_given : {A : Type 0} (read : Option (Read A)) (r : Result (WithHeight A) ParseFault) (old new : List Lexeme) → Gives read r new → IfSome read (Shorter old) →
     IfOk r (λ x. length new < length old)

@@ -7,7 +7,7 @@ use Rattle.parse_meaning.specs.declared.terminals.Keyword.TheVariants as w
 use Rattle.parse_meaning.specs.Expressions.{basic_word}
 use Rattle.parse_meaning.specs.Terminals.{Lexeme}
 use Rattle.parse_meaning.specs.Specifiers.{Tally, nothing, together}
-use Rattle.parse_meaning.specs.Reading.{◌>>=◌, Read, Counted, Specs, found, begins_spec, with_spec, specs_any, word_spec, basic_spec}
+use Rattle.parse_reading.specs.Reading.{◌>>=◌, Read, Counted, Specs, found, begins_spec, with_spec, specs_any, word_spec, basic_spec}
 
 abbrev pub specs_found : List Spec → Tally → ℕ → List Lexeme → Read Specs
 specs_found xs a h t = found (record { specs = xs; tally = a }) h t

@@ -3,7 +3,7 @@ use Rattle.std.proofs.Common.{◌≡◌, ℕ, List, [], ◌∷◌, ◌++◌, sym
 use Rattle.parse_meaning.specs.Terminals.{Lexeme, at, text_of}
 use Rattle.parse_meaning.specs.declared.terminals.Terminal.TheVariants as k
 use Rattle.c_tokens.specs.declared.tokens.Token.{Token}
-use Rattle.parse_meaning.specs.Reading.{strings}
+use Rattle.parse_reading.specs.Reading.{strings}
 use Rattle.parse_leaves.specs.Runs.{joined, strings_behind}
 
 pub joined_joined : {A : Type 0} (xs ys : List A) (r : List A × List Lexeme) → joined xs (joined ys r) ≡ joined (xs ++ ys) r

@@ -8,7 +8,7 @@ use Rattle.parse_meaning.specs.Terminals.{Lexeme, at, is_tag}
 use Rattle.parse_meaning.specs.Expressions.{identifier}
 use Rattle.parse_meaning.specs.Specifiers as g
 use Rattle.parse_meaning.specs.Specifiers.{outer, inner, block}
-use Rattle.parse_meaning.specs.Reading.{Read, Counted, Specs, tag}
+use Rattle.parse_reading.specs.Reading.{Read, Counted, Specs, tag}
 use Rattle.parse_tokens.specs.declared.faults.ParseFault.{ParseFault}
 use Rattle.parse_tokens.specs.declared.faults.ParseFault.TheVariants as fault
 use Rattle.parse_tokens.specs.declared.faults.WithHeight.{WithHeight}

@@ -2,7 +2,7 @@
 
 ghost use Rattle.std.specs.Prelude.{◌≡◌, ◌<◌, [], length, IfOk};
 ghost use Rattle.parse_meaning.specs.Expressions as grammar;
-ghost use Rattle.parse_meaning.specs.Reading as spec;
+ghost use Rattle.parse_reading.specs.Reading as spec;
 ghost use Rattle.parse_tokens.specs.Gives.{GivesPart};
 ghost use Rattle.parse_leaves.specs.Sides.{side_of};
 
@@ -47,7 +47,7 @@ fn same_brackets(a: Brackets, b: Brackets) -> bool
 }
 
 /// What a token is among brackets.
-#[derive(Clone, Copy, Debug, PartialEq, Eq)]
+#[derive(Clone, Copy, PartialEq, Eq)]
 enum Side {
     Opens(Brackets),
     Closes(Brackets),
@@ -93,7 +93,7 @@ fn balanced(alloc: Global, tokens: &mut Tokens<'_>) -> Result<Items<Token>, Pars
 }
 
 /// The tokens between the brackets of an attribute, and the bracket that closes.
-#[tactic(auto, unfolding(parse_meaning::specs::Reading::attribute_called))]
+#[tactic(auto, unfolding(parse_reading::specs::Reading::attribute_called))]
 fn attribute_called(
     alloc: Global,
     tokens: &mut Tokens<'_>,
@@ -129,7 +129,7 @@ fn attribute_behind(
 }
 
 /// `name` or `name (1, 2)`.
-#[tactic(auto, unfolding(parse_meaning::specs::Reading::attribute))]
+#[tactic(auto, unfolding(parse_reading::specs::Reading::attribute))]
 fn attribute(alloc: Global, tokens: &mut Tokens<'_>) -> Result<Attribute, ParseFault>
     ensures { GivesPart (spec.attribute tokens.old) result tokens.new }
 {
@@ -182,7 +182,7 @@ fn attributes_within(alloc: Global, tokens: &mut Tokens<'_>) -> Result<Items<Att
 }
 
 /// `((noreturn, format (printf, 1, 2)))`, behind the word `__attribute__`.
-#[tactic(auto, unfolding(parse_meaning::specs::Reading::attribute_list))]
+#[tactic(auto, unfolding(parse_reading::specs::Reading::attribute_list))]
 pub fn attribute_list(
     alloc: Global,
     tokens: &mut Tokens<'_>,

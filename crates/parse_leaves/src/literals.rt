@@ -3,7 +3,7 @@
 ghost use Rattle.std.specs.Prelude.{◌≡◌, ◌∷◌, [], IfOk, MatchOption};
 ghost use Rattle.parse_meaning.specs.declared.terminals.Terminal.TheVariants as k;
 ghost use Rattle.parse_meaning.specs.Terminals.{at, text_of};
-ghost use Rattle.parse_meaning.specs.Reading as spec;
+ghost use Rattle.parse_reading.specs.Reading as spec;
 ghost use Rattle.parse_leaves.specs.Runs.{strings_behind};
 
 use c_tokens::Token;

@@ -3,7 +3,7 @@
 ghost use Rattle.std.specs.Prelude.{◌≡◌, ◌≤◌, ◌+◌, ◌∷◌, [], is_some, if◌then◌else◌, length, IfOk, IsTrue, IsFalse, MatchOption};
 ghost use Rattle.c_tree.specs.declared.nodes.PointerWord.TheVariants as pointer;
 ghost use Rattle.parse_meaning.specs.Expressions as grammar;
-ghost use Rattle.parse_meaning.specs.Reading as spec;
+ghost use Rattle.parse_reading.specs.Reading as spec;
 ghost use Rattle.parse_leaves.specs.Runs.{joined};
 
 use c_tokens::Punct;
@@ -25,7 +25,7 @@ fn pointer_word(terminal: Terminal) -> Option<PointerWord>
 }
 
 /// Takes a star or a qualifier, if one comes next.
-#[tactic(auto, unfolding(parse_meaning::specs::Reading::pointer_words))]
+#[tactic(auto, unfolding(parse_reading::specs::Reading::pointer_words))]
 fn take_pointer_word(tokens: &mut Tokens<'_>) -> Option<PointerWord>
     ensures words { MatchOption result ((spec.pointer_words tokens.old ≡ ([], tokens.old)) × (tokens.new ≡ tokens.old)) (λ word. spec.pointer_words tokens.old ≡ joined (word ∷ []) (spec.pointer_words tokens.new)) }
     ensures on { length tokens.new + (if is_some result then 1 else 0) ≡ length tokens.old }
@@ -51,7 +51,7 @@ pub fn pointer_words(
 }
 
 /// Takes a star, if one comes next.
-#[tactic(auto, unfolding(parse_meaning::specs::Reading::stars))]
+#[tactic(auto, unfolding(parse_reading::specs::Reading::stars))]
 fn take_star(tokens: &mut Tokens<'_>) -> bool
     ensures taken { IsTrue result → (spec.stars tokens.old ≡ joined (pointer.Star ∷ []) (spec.stars tokens.new)) × (length tokens.old ≡ length tokens.new + 1) }
     ensures other { IsFalse result → (spec.stars tokens.old ≡ ([], tokens.old)) × (tokens.new ≡ tokens.old) }

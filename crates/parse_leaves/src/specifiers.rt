@@ -6,7 +6,7 @@ ghost use Rattle.parse_meaning.specs.Terminals.{Lexeme};
 ghost use Rattle.parse_meaning.specs.Expressions as grammar;
 ghost use Rattle.parse_meaning.specs.Expressions.{identifier};
 ghost use Rattle.parse_meaning.specs.Specifiers.{together, may_stand, nothing};
-ghost use Rattle.parse_meaning.specs.Reading as spec;
+ghost use Rattle.parse_reading.specs.Reading as spec;
 ghost use Rattle.parse_leaves.specs.Counts.{tally_of, total, context_of, GivesCounted, GivesSpecs, GivesTag};
 
 use crate::attributes::attribute_list;
@@ -15,8 +15,8 @@ use c_tree::{Aggregate, BasicWord, Identifier, Spec};
 use fc_base::{NoMemory, Place};
 use parse_meaning::{Keyword, Terminal};
 use parse_tokens::{ParseFault, Tokens, WithHeight, copy_text, is_tag, kept};
-use sqlite_items::Items;
 use std::alloc::Global;
+use tree_drops::{LetGo, SpecItems};
 
 /// A specifier, and what it counts as.
 #[derive(Drop)]
@@ -28,8 +28,12 @@ pub struct Counted {
 /// Specifiers, and what they count as together.
 #[derive(Drop)]
 pub struct SpecList {
-    pub specs: Items<Spec>,
+    pub specs: SpecItems,
     pub tally: Tally,
+}
+
+impl LetGo for SpecList {
+    fn let_go(self) {}
 }
 
 impl SpecList {
@@ -39,7 +43,7 @@ impl SpecList {
         ensures total { total result.tally ≡ 0 }
     {
         SpecList {
-            specs: Items::new(alloc),
+            specs: SpecItems::new(alloc),
             tally: Tally::nothing(),
         }
     }
@@ -160,7 +164,7 @@ fn enum_tagged(
     Ok(as_counted(Spec::EnumTag { tag, place }, Tally::whole_type()))
 }
 
-#[tactic(auto, unfolding(parse_meaning::specs::Reading::attribute_spec))]
+#[tactic(auto, unfolding(parse_reading::specs::Reading::attribute_spec))]
 fn attribute_spec(
     alloc: Global,
     tokens: &mut Tokens<'_>,
@@ -284,7 +288,7 @@ fn specs_any(
 }
 
 /// Specifiers without bodies that may stand together where they stand.
-#[tactic(auto, unfolding(parse_meaning::specs::Reading::specs_in))]
+#[tactic(auto, unfolding(parse_reading::specs::Reading::specs_in))]
 pub fn plain_specs(
     alloc: Global,
     tokens: &mut Tokens<'_>,

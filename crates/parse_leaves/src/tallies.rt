@@ -6,7 +6,7 @@ ghost use Rattle.parse_meaning.specs.Specifiers.{together, may_stand, nothing};
 ghost use Rattle.parse_leaves.specs.Counts.{tally_of, total, context_of};
 
 /// Where a list of specifiers stands.
-#[derive(Clone, Copy, Debug, PartialEq, Eq)]
+#[derive(Clone, Copy, PartialEq, Eq)]
 pub enum Context {
     /// In an external declaration, or in a member of its structures.
     Outer,
@@ -18,7 +18,7 @@ pub enum Context {
 
 /// How often each kind of specifier stands in a list. The names of types, structures, unions and enumerations count
 /// as `whole`.
-#[derive(Clone, Copy, Debug, PartialEq, Eq)]
+#[derive(Clone, Copy, PartialEq, Eq)]
 pub struct Tally {
     pub typedef: usize,
     pub extern_: usize,

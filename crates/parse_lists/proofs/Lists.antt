@@ -2,7 +2,7 @@
 use Rattle.std.proofs.Common.{◌≡◌, ℕ, zero, suc, ◌+◌, ◌-◌, ◌<◌, ◌≤◌, max, List, [], ◌∷◌, ◌++◌, Option, Some, None, Bool, true, false, ap, ◌∙◌}
 use Rattle.std.specs.Prelude.{if◌then◌else◌}
 use Rattle.parse_meaning.specs.Terminals.{Lexeme}
-use Rattle.parse_meaning.specs.Reading.{Read, ◌>>=◌, found, prepended}
+use Rattle.parse_reading.specs.Reading.{Read, ◌>>=◌, found, prepended}
 use Rattle.parse_tokens.proofs.Turns.{one_more, no_more, prepended-prepended}
 
 -- an item, by what stands behind it

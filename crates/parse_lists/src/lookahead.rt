@@ -1,9 +1,9 @@
 //! Whether a parameter has a name.
 
 ghost use Rattle.std.specs.Prelude.{◌≡◌};
-ghost use Rattle.parse_meaning.specs.Reading.{pointer_words, stars};
+ghost use Rattle.parse_reading.specs.Reading.{pointer_words, stars};
 ghost use Rattle.parse_lists.specs.Pointers.{begins_pointer_word};
-ghost use Rattle.parse_meaning.specs.ReadingDeclarators as spec;
+ghost use Rattle.parse_reading.specs.ReadingDeclarators as spec;
 
 use c_tokens::Punct;
 use parse_meaning::{Keyword, Terminal};
@@ -20,7 +20,7 @@ fn begins_pointer_word(tokens: &Tokens<'_>) -> bool
 }
 
 /// Passes any number of stars and qualifiers, as `* const *`.
-#[tactic(auto, unfolding(parse_meaning::specs::Reading::pointer_words))]
+#[tactic(auto, unfolding(parse_reading::specs::Reading::pointer_words))]
 fn pass_pointer_words(tokens: &mut Tokens<'_>)
     ensures { tokens.new ≡ (pointer_words tokens.old).1 }
 {
@@ -30,7 +30,7 @@ fn pass_pointer_words(tokens: &mut Tokens<'_>)
 }
 
 /// Passes any number of stars.
-#[tactic(auto, unfolding(parse_meaning::specs::Reading::stars))]
+#[tactic(auto, unfolding(parse_reading::specs::Reading::stars))]
 fn pass_stars(tokens: &mut Tokens<'_>)
     ensures { tokens.new ≡ (stars tokens.old).1 }
 {

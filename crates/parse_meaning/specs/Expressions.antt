@@ -177,8 +177,11 @@ expr x place = record { kind = x; place = place }
 
 -- one string literal or more, and the bytes of all (C11 6.4.5, paragraph 5)
 pub data AreStrings : List Lexeme → List ℕ → List Lexeme → Type 0 where
+  -- string-literal: " s-char-sequence " (C11 6.4.5)
   one_string : {o : Token} {t : List Lexeme} → AreStrings (at k.Str o ∷ t) (text_of o) t
-  more_strings : {o : Token} {s t : List Lexeme} {bytes : List ℕ} → AreStrings s bytes t → AreStrings (at k.Str o ∷ s) (text_of o ++ bytes) t
+  -- string-literals that stand next to one another are one (C11 6.4.5p5)
+  more_strings : {o : Token} {s t : List Lexeme} {bytes : List ℕ} → AreStrings s bytes t →
+      AreStrings (at k.Str o ∷ s) (text_of o ++ bytes) t
 
 -- ---- Attributes (GCC manual, "Attribute Syntax")
 
@@ -200,24 +203,40 @@ is_bracket _ = false
 
 -- tokens in which each bracket has its partner of the same kind
 pub data AreBalanced : List Lexeme → List Token → List Lexeme → Type 0 where
+  -- balanced: nothing
   balanced_end : {t : List Lexeme} → AreBalanced t [] t
-  balanced_token : {c : Terminal} {o : Token} {os : List Token} {s t : List Lexeme} → is_bracket c ≡ false → AreBalanced s os t → AreBalanced (at c o ∷ s) (o ∷ os) t
-  balanced_group : {a b : Punct} {x : Brackets} {o q : Token} {os qs : List Token} {s t u : List Lexeme} → opening a ≡ Some x → closing b ≡ Some x →
-      AreBalanced s os (at (k.Punct b) q ∷ t) → AreBalanced t qs u → AreBalanced (at (k.Punct a) o ∷ s) (o ∷ os ++ q ∷ qs) u
+  -- balanced: token-that-is-no-bracket balanced
+  balanced_token : {c : Terminal} {o : Token} {os : List Token} {s t : List Lexeme} → is_bracket c ≡ false → AreBalanced s os t →
+      AreBalanced (at c o ∷ s) (o ∷ os) t
+  -- balanced: ( balanced ) balanced, and with [ ] or { } so
+  balanced_group : {a b : Punct} {x : Brackets} {o q : Token} {os qs : List Token} {s t u : List Lexeme} → opening a ≡ Some x →
+      closing b ≡ Some x → AreBalanced s os (at (k.Punct b) q ∷ t) → AreBalanced t qs u →
+      AreBalanced (at (k.Punct a) o ∷ s) (o ∷ os ++ q ∷ qs) u
 
 pub data IsAttribute : List Lexeme → Attribute → List Lexeme → Type 0 where
-  attribute : {c : Terminal} {o : Token} {t : List Lexeme} → is_word c ≡ true → IsAttribute (at c o ∷ t) (record { name = text_of o; args = None }) t
-  attribute_called : {c : Terminal} {o q r : Token} {os : List Token} {s t : List Lexeme} → is_word c ≡ true → AreBalanced s os (at (k.Punct p.RightParen) r ∷ t) →
+  -- attribute: any-word
+  attribute : {c : Terminal} {o : Token} {t : List Lexeme} → is_word c ≡ true →
+      IsAttribute (at c o ∷ t) (record { name = text_of o; args = None }) t
+  -- attribute: any-word ( balanced )
+  attribute_called : {c : Terminal} {o q r : Token} {os : List Token} {s t : List Lexeme} → is_word c ≡ true →
+      AreBalanced s os (at (k.Punct p.RightParen) r ∷ t) →
       IsAttribute (at c o ∷ at (k.Punct p.LeftParen) q ∷ s) (record { name = text_of o; args = Some os }) t
 
 -- one attribute or more, with commas between them, up to and with the two brackets that close their list
 pub data AreAttributes : List Lexeme → List Attribute → List Lexeme → Type 0 where
-  last_attribute : {o q : Token} {s t : List Lexeme} {x : Attribute} → IsAttribute s x (at (k.Punct p.RightParen) o ∷ at (k.Punct p.RightParen) q ∷ t) → AreAttributes s (x ∷ []) t
-  more_attributes : {o : Token} {s t u : List Lexeme} {x : Attribute} {xs : List Attribute} → IsAttribute s x (at (k.Punct p.Comma) o ∷ t) → AreAttributes t xs u → AreAttributes s (x ∷ xs) u
+  -- attribute-list: attribute, before ) )
+  last_attribute : {o q : Token} {s t : List Lexeme} {x : Attribute} →
+      IsAttribute s x (at (k.Punct p.RightParen) o ∷ at (k.Punct p.RightParen) q ∷ t) → AreAttributes s (x ∷ []) t
+  -- attribute-list: attribute , attribute-list
+  more_attributes : {o : Token} {s t u : List Lexeme} {x : Attribute} {xs : List Attribute} → IsAttribute s x (at (k.Punct p.Comma) o ∷ t) →
+      AreAttributes t xs u → AreAttributes s (x ∷ xs) u
 
 pub data IsAttributeList : List Lexeme → List Attribute → List Lexeme → Type 0 where
+  -- attribute-specifier: __attribute__ ( ( ) )
   empty_attributes : {o q r a b : Token} {t : List Lexeme} →
-      IsAttributeList (at (k.Word w.Attribute) o ∷ at (k.Punct p.LeftParen) q ∷ at (k.Punct p.LeftParen) r ∷ at (k.Punct p.RightParen) a ∷ at (k.Punct p.RightParen) b ∷ t) [] t
+      IsAttributeList (at (k.Word w.Attribute) o ∷ at (k.Punct p.LeftParen) q ∷ at (k.Punct p.LeftParen) r ∷ at (k.Punct p.RightParen) a ∷
+      at (k.Punct p.RightParen) b ∷ t) [] t
+  -- attribute-specifier: __attribute__ ( ( attribute-list ) )
   some_attributes : {o q r : Token} {s t : List Lexeme} {xs : List Attribute} → AreAttributes s xs t →
       IsAttributeList (at (k.Word w.Attribute) o ∷ at (k.Punct p.LeftParen) q ∷ at (k.Punct p.LeftParen) r ∷ s) xs t
 
@@ -233,13 +252,17 @@ pointer_word _ = None
 -- any number of stars and qualifiers
 pub data ArePointerWords : List Lexeme → List PointerWord → List Lexeme → Type 0 where
   no_words : {t : List Lexeme} → ArePointerWords t [] t
+  -- pointer: * type-qualifier-list(opt) pointer(opt), behind its first star (C11 6.7.6)
   more_words : {c : Terminal} {o : Token} {x : PointerWord} {xs : List PointerWord} {s t : List Lexeme} → pointer_word c ≡ Some x →
       ArePointerWords s xs t → ArePointerWords (at c o ∷ s) (x ∷ xs) t
 
 -- one star or more, and no qualifier
 pub data AreStars : List Lexeme → List PointerWord → List Lexeme → Type 0 where
+  -- pointer: *
   one_star : {o : Token} {t : List Lexeme} → AreStars (at (k.Punct p.Star) o ∷ t) (pointer.Star ∷ []) t
-  more_stars : {o : Token} {s t : List Lexeme} {xs : List PointerWord} → AreStars s xs t → AreStars (at (k.Punct p.Star) o ∷ s) (pointer.Star ∷ xs) t
+  -- pointer: * pointer
+  more_stars : {o : Token} {s t : List Lexeme} {xs : List PointerWord} → AreStars s xs t →
+      AreStars (at (k.Punct p.Star) o ∷ s) (pointer.Star ∷ xs) t
 
 -- ---- Specifiers that are one token
 
@@ -295,185 +318,275 @@ is_void_alone _ = false
 mutual
   -- An expression of a level. A node has the place of its first token where no operator or word names another.
   pub data IsExpr : ℕ → List Lexeme → Expr → ℕ → List Lexeme → Type 0 where
+    -- each level has what the one before it has, as multiplicative-expression: cast-expression
     looser : {l h : ℕ} {s t : List Lexeme} {x : Expr} → IsExpr l s x h t → IsExpr (suc l) s x h t
-    -- C11 6.5.1
+    -- primary-expression: identifier (C11 6.5.1)
     name : {o : Token} {t : List Lexeme} → IsExpr primary (at k.Name o ∷ t) (expr (e.Name (text_of o)) o.place) 1 t
-    constant : {o : Token} {x : ExprKind} {t : List Lexeme} → constant_of o.kind ≡ Some x → IsExpr primary (at k.Constant o ∷ t) (expr x o.place) 1 t
+    -- primary-expression: constant (C11 6.5.1)
+    constant : {o : Token} {x : ExprKind} {t : List Lexeme} → constant_of o.kind ≡ Some x →
+        IsExpr primary (at k.Constant o ∷ t) (expr x o.place) 1 t
+    -- primary-expression: string-literal (C11 6.5.1)
     string : {s t : List Lexeme} {bytes : List ℕ} → AreStrings s bytes t → IsExpr primary s (expr (e.Str bytes) (place_of s)) 1 t
+    -- primary-expression: ( expression ) (C11 6.5.1)
     parens : {h : ℕ} {o q : Token} {t u : List Lexeme} {x : Expr} → IsExpr expression t x h (at (k.Punct p.RightParen) q ∷ u) →
         IsExpr primary (at (k.Punct p.LeftParen) o ∷ t) x h u
-    -- C11 6.5.2.1
+    -- postfix-expression: postfix-expression [ expression ] (C11 6.5.2.1)
     index : {h j : ℕ} {o q : Token} {s t u : List Lexeme} {x y : Expr} → IsExpr postfix s x h (at (k.Punct p.LeftBracket) o ∷ t) →
         IsExpr expression t y j (at (k.Punct p.RightBracket) q ∷ u) → IsExpr postfix s (expr (e.Index x y) o.place) (suc (max h j)) u
-    -- C11 6.5.2.2
-    call_empty : {h : ℕ} {o q : Token} {s t : List Lexeme} {x : Expr} → IsExpr postfix s x h (at (k.Punct p.LeftParen) o ∷ at (k.Punct p.RightParen) q ∷ t) →
+    -- postfix-expression: postfix-expression ( ) (C11 6.5.2.2)
+    call_empty : {h : ℕ} {o q : Token} {s t : List Lexeme} {x : Expr} →
+        IsExpr postfix s x h (at (k.Punct p.LeftParen) o ∷ at (k.Punct p.RightParen) q ∷ t) →
         IsExpr postfix s (expr (e.Call x []) x.place) (suc h) t
-    call : {h j : ℕ} {o q : Token} {s t u : List Lexeme} {x : Expr} {xs : List Expr} → IsExpr postfix s x h (at (k.Punct p.LeftParen) o ∷ t) →
-        AreExprs t xs j (at (k.Punct p.RightParen) q ∷ u) → IsExpr postfix s (expr (e.Call x xs) x.place) (suc (max h j)) u
-    -- C11 6.5.2.3
-    member : {h : ℕ} {a : Punct} {b : Bool} {c : Terminal} {o q : Token} {s t : List Lexeme} {x : Expr} → member_operator a ≡ Some b → is_tag c ≡ true →
-        IsExpr postfix s x h (at (k.Punct a) o ∷ at c q ∷ t) → IsExpr postfix s (expr (e.Member x b (text_of q)) q.place) (suc h) t
-    -- C11 6.5.2.4
+    -- postfix-expression: postfix-expression ( argument-expression-list ) (C11 6.5.2.2)
+    call : {h j : ℕ} {o q : Token} {s t u : List Lexeme} {x : Expr} {xs : List Expr} →
+        IsExpr postfix s x h (at (k.Punct p.LeftParen) o ∷ t) → AreExprs t xs j (at (k.Punct p.RightParen) q ∷ u) →
+        IsExpr postfix s (expr (e.Call x xs) x.place) (suc (max h j)) u
+    -- postfix-expression: postfix-expression . identifier, and with -> so (C11 6.5.2.3)
+    member : {h : ℕ} {a : Punct} {b : Bool} {c : Terminal} {o q : Token} {s t : List Lexeme} {x : Expr} → member_operator a ≡ Some b →
+        is_tag c ≡ true → IsExpr postfix s x h (at (k.Punct a) o ∷ at c q ∷ t) →
+        IsExpr postfix s (expr (e.Member x b (text_of q)) q.place) (suc h) t
+    -- postfix-expression: postfix-expression ++, and with -- so (C11 6.5.2.4)
     stepped : {h : ℕ} {a : Punct} {b : PostfixOp} {o : Token} {s t : List Lexeme} {x : Expr} → postfix_operator a ≡ Some b →
         IsExpr postfix s x h (at (k.Punct a) o ∷ t) → IsExpr postfix s (expr (e.Postfix b x) (place_of s)) (suc h) t
-    -- GCC manual, "Object Size Checking"
+    -- postfix-expression: __builtin_dynamic_object_size ( assignment-expression , conditional-expression ) (GCC manual)
     size_call : {h j : ℕ} {o q r a : Token} {t u v : List Lexeme} {x y : Expr} → IsExpr assignment t x h (at (k.Punct p.Comma) r ∷ u) →
         IsExpr conditional u y j (at (k.Punct p.RightParen) a ∷ v) →
-        IsExpr postfix (at (k.Word w.DynamicObjectSize) o ∷ at (k.Punct p.LeftParen) q ∷ t) (expr (e.SizeCall x y) o.place) (suc (max h j)) v
-    -- C11 6.5.3.1 and 6.5.3.3
+        IsExpr postfix (at (k.Word w.DynamicObjectSize) o ∷ at (k.Punct p.LeftParen) q ∷ t) (expr (e.SizeCall x y) o.place)
+        (suc (max h j)) v
+    -- unary-expression: ++ unary-expression, -- unary-expression, unary-operator cast-expression (C11 6.5.3.1 and 6.5.3.3)
     prefixed : {l h : ℕ} {a : Punct} {b : PrefixOp} {o : Token} {t u : List Lexeme} {x : Expr} → prefix_operator a ≡ Some (b, l) →
         IsExpr l t x h u → IsExpr unary (at (k.Punct a) o ∷ t) (expr (e.Prefix b x) o.place) (suc h) u
-    -- C11 6.5.3.4
+    -- unary-expression: sizeof unary-expression (C11 6.5.3.4)
     sizeof_expr : {h : ℕ} {o : Token} {t u : List Lexeme} {x : Expr} → IsExpr unary t x h u →
         IsExpr unary (at (k.Word w.Sizeof) o ∷ t) (expr (e.SizeofExpr x) o.place) (suc h) u
+    -- unary-expression: sizeof ( type-name ) (C11 6.5.3.4)
     sizeof_type : {h : ℕ} {o q r : Token} {t u : List Lexeme} {n : TypeName} → IsTypeName t n h (at (k.Punct p.RightParen) r ∷ u) →
         IsExpr unary (at (k.Word w.Sizeof) o ∷ at (k.Punct p.LeftParen) q ∷ t) (expr (e.SizeofType n) o.place) (suc h) u
-    -- C11 6.5.4
-    conversion : {h j : ℕ} {o q : Token} {t u v : List Lexeme} {n : TypeName} {x : Expr} → IsTypeName t n h (at (k.Punct p.RightParen) q ∷ u) →
-        IsExpr cast u x j v → IsExpr cast (at (k.Punct p.LeftParen) o ∷ t) (expr (e.Cast n x) o.place) (suc (max h j)) v
+    -- cast-expression: ( type-name ) cast-expression (C11 6.5.4)
+    conversion : {h j : ℕ} {o q : Token} {t u v : List Lexeme} {n : TypeName} {x : Expr} →
+        IsTypeName t n h (at (k.Punct p.RightParen) q ∷ u) → IsExpr cast u x j v →
+        IsExpr cast (at (k.Punct p.LeftParen) o ∷ t) (expr (e.Cast n x) o.place) (suc (max h j)) v
     -- C11 6.5.5 to 6.5.14
+    -- multiplicative-expression: multiplicative-expression * cast-expression, and each operator to || so (C11 6.5.5 to 6.5.14)
     operation : {l h j : ℕ} {a : Punct} {b : BinaryOp} {o : Token} {s t u : List Lexeme} {x y : Expr} → binary_operator a ≡ Some (b, l) →
         IsExpr (suc l) s x h (at (k.Punct a) o ∷ t) → IsExpr l t y j u → IsExpr (suc l) s (expr (e.Binary b x y) o.place) (suc (max h j)) u
-    -- C11 6.5.15
+    -- conditional-expression: logical-OR-expression ? expression : conditional-expression (C11 6.5.15)
     choice : {h j m : ℕ} {o q : Token} {s t u v : List Lexeme} {x y z : Expr} → IsExpr logical_or s x h (at (k.Punct p.Question) o ∷ t) →
         IsExpr expression t y j (at (k.Punct p.Colon) q ∷ u) → IsExpr conditional u z m v →
         IsExpr conditional s (expr (e.Cond x y z) o.place) (suc (max h (max j m))) v
-    -- C11 6.5.16
+    -- assignment-expression: unary-expression assignment-operator assignment-expression (C11 6.5.16)
     assigned : {h j : ℕ} {a : Punct} {b : AssignOp} {o : Token} {s t u : List Lexeme} {x y : Expr} → assignment_operator a ≡ Some b →
-        IsExpr unary s x h (at (k.Punct a) o ∷ t) → IsExpr assignment t y j u → IsExpr assignment s (expr (e.Assign b x y) o.place) (suc (max h j)) u
-    -- C11 6.5.17
+        IsExpr unary s x h (at (k.Punct a) o ∷ t) → IsExpr assignment t y j u →
+        IsExpr assignment s (expr (e.Assign b x y) o.place) (suc (max h j)) u
+    -- expression: assignment-expression , expression (C11 6.5.17; all that stand next to one another are one node)
     comma : {h j : ℕ} {o : Token} {s t u : List Lexeme} {x : Expr} {xs : List Expr} → IsExpr assignment s x h (at (k.Punct p.Comma) o ∷ t) →
         AreExprs t xs j u → IsExpr expression s (expr (e.Comma (x ∷ xs)) (place_of s)) (suc (max h j)) u
 
   -- one expression of the level of assignments or more, with commas between them
   pub data AreExprs : List Lexeme → List Expr → ℕ → List Lexeme → Type 0 where
+    -- argument-expression-list: assignment-expression (C11 6.5.2)
     one_expr : {h : ℕ} {s t : List Lexeme} {x : Expr} → IsExpr assignment s x h t → AreExprs s (x ∷ []) h t
-    more_exprs : {h j : ℕ} {o : Token} {s t u : List Lexeme} {x : Expr} {xs : List Expr} → IsExpr assignment s x h (at (k.Punct p.Comma) o ∷ t) →
-        AreExprs t xs j u → AreExprs s (x ∷ xs) (max h j) u
+    -- argument-expression-list: assignment-expression , argument-expression-list (C11 6.5.2)
+    more_exprs : {h j : ℕ} {o : Token} {s t u : List Lexeme} {x : Expr} {xs : List Expr} →
+        IsExpr assignment s x h (at (k.Punct p.Comma) o ∷ t) → AreExprs t xs j u → AreExprs s (x ∷ xs) (max h j) u
 
   -- C11 6.7.7
   pub data IsTypeName : List Lexeme → TypeName → ℕ → List Lexeme → Type 0 where
-    type_name : {h j : ℕ} {s t u : List Lexeme} {xs : List Spec} {a : Tally} {x : Declarator} → AreSpecs inner s xs a h t → IsAbstract (place_of s) t x j u →
-        IsTypeName s (record { specs = xs; declarator = x; place = place_of s }) (suc (max h j)) u
+    -- type-name: specifier-qualifier-list abstract-declarator(opt) (C11 6.7.7)
+    type_name : {h j : ℕ} {s t u : List Lexeme} {xs : List Spec} {a : Tally} {x : Declarator} → AreSpecs inner s xs a h t →
+        IsAbstract (place_of s) t x j u → IsTypeName s (record { specs = xs; declarator = x; place = place_of s }) (suc (max h j)) u
 
   -- the bound of an array, up to and with the bracket behind it (C11 6.7.6.2)
   pub data IsBound : List Lexeme → Option Expr → ℕ → List Lexeme → Type 0 where
+    -- direct-declarator: direct-declarator [ ], from its ] on (C11 6.7.6)
     no_bound : {o : Token} {t : List Lexeme} → IsBound (at (k.Punct p.RightBracket) o ∷ t) None 0 t
-    bound : {h : ℕ} {o : Token} {s t : List Lexeme} {x : Expr} → IsExpr conditional s x h (at (k.Punct p.RightBracket) o ∷ t) → IsBound s (Some x) h t
+    -- direct-declarator: direct-declarator [ constant-expression ], behind its [ (C11 6.7.6)
+    bound : {h : ℕ} {o : Token} {s t : List Lexeme} {x : Expr} → IsExpr conditional s x h (at (k.Punct p.RightBracket) o ∷ t) →
+        IsBound s (Some x) h t
 
   -- An abstract declarator (C11 6.7.7), with the place of the first token of its parameter or type name.
   pub data IsAbstract : Place → List Lexeme → Declarator → ℕ → List Lexeme → Type 0 where
-    abstract_plain : {h : ℕ} {place : Place} {s t : List Lexeme} {x : Declarator} → IsAbstractDirect place s x h t → IsAbstract place s x h t
-    abstract_pointer : {h : ℕ} {place : Place} {o : Token} {s t u : List Lexeme} {ws : List PointerWord} {x : Declarator} → ArePointerWords s ws t →
-        IsAbstractDirect place t x h u → IsAbstract place (at (k.Punct p.Star) o ∷ s) (d.Pointer (pointer.Star ∷ ws) x o.place) (suc h) u
+    -- abstract-declarator: direct-abstract-declarator, or nothing (C11 6.7.7)
+    abstract_plain : {h : ℕ} {place : Place} {s t : List Lexeme} {x : Declarator} → IsAbstractDirect place s x h t →
+        IsAbstract place s x h t
+    -- abstract-declarator: pointer direct-abstract-declarator(opt) (C11 6.7.7)
+    abstract_pointer : {h : ℕ} {place : Place} {o : Token} {s t u : List Lexeme} {ws : List PointerWord} {x : Declarator} →
+        ArePointerWords s ws t → IsAbstractDirect place t x h u →
+        IsAbstract place (at (k.Punct p.Star) o ∷ s) (d.Pointer (pointer.Star ∷ ws) x o.place) (suc h) u
 
   pub data IsAbstractDirect : Place → List Lexeme → Declarator → ℕ → List Lexeme → Type 0 where
-    abstract_arrays : {h : ℕ} {place : Place} {s t : List Lexeme} {x : Declarator} → AreArrays place s x h t → IsAbstractDirect place s x h t
+    -- direct-abstract-declarator: bounds alone (C11 6.7.7)
+    abstract_arrays : {h : ℕ} {place : Place} {s t : List Lexeme} {x : Declarator} → AreArrays place s x h t →
+        IsAbstractDirect place s x h t
+    -- direct-abstract-declarator: ( pointer ) [ constant-expression(opt) ] (C11 6.7.7, as far as this project has it)
     abstract_group : {h : ℕ} {place : Place} {o q r : Token} {s t u : List Lexeme} {ws : List PointerWord} {x : Option Expr} →
         AreStars s ws (at (k.Punct p.RightParen) q ∷ at (k.Punct p.LeftBracket) r ∷ t) → IsBound t x h u →
-        IsAbstractDirect place (at (k.Punct p.LeftParen) o ∷ s) (d.Array (d.Pointer ws (d.Omitted place) (place_of s)) x o.place) (suc (max 2 h)) u
+        IsAbstractDirect place (at (k.Punct p.LeftParen) o ∷ s) (d.Array (d.Pointer ws (d.Omitted place) (place_of s)) x o.place)
+        (suc (max 2 h)) u
 
   -- the name that is left out, and any number of bounds
   pub data AreArrays : Place → List Lexeme → Declarator → ℕ → List Lexeme → Type 0 where
     omitted : {place : Place} {t : List Lexeme} → AreArrays place t (d.Omitted place) 1 t
-    abstract_array : {h j : ℕ} {place : Place} {o : Token} {s t u : List Lexeme} {x : Declarator} {y : Option Expr} → AreArrays place s x h (at (k.Punct p.LeftBracket) o ∷ t) →
-        IsBound t y j u → AreArrays place s (d.Array x y (place_of s)) (suc (max h j)) u
+    -- direct-abstract-declarator: direct-abstract-declarator(opt) [ constant-expression(opt) ] (C11 6.7.7)
+    abstract_array : {h j : ℕ} {place : Place} {o : Token} {s t u : List Lexeme} {x : Declarator} {y : Option Expr} →
+        AreArrays place s x h (at (k.Punct p.LeftBracket) o ∷ t) → IsBound t y j u →
+        AreArrays place s (d.Array x y (place_of s)) (suc (max h j)) u
 
   -- A specifier, and what it counts as (C11 6.7.1 to 6.7.4).
   pub data IsSpec : Context → List Lexeme → Spec → Tally → ℕ → List Lexeme → Type 0 where
-    spec_typedef : {c : Context} {o : Token} {t : List Lexeme} → IsSpec c (at (k.Word w.Typedef) o ∷ t) (spec.Typedef o.place) (record nothing { typedef = 1 }) 1 t
-    spec_extern : {c : Context} {o : Token} {t : List Lexeme} → IsSpec c (at (k.Word w.Extern) o ∷ t) (spec.Extern o.place) (record nothing { extern = 1 }) 1 t
-    spec_static : {c : Context} {o : Token} {t : List Lexeme} → IsSpec c (at (k.Word w.Static) o ∷ t) (spec.Static o.place) (record nothing { static = 1 }) 1 t
-    spec_inline : {c : Context} {o : Token} {t : List Lexeme} → IsSpec c (at (k.Word w.Inline) o ∷ t) (spec.Inline o.place) (record nothing { inline = 1 }) 1 t
+    -- storage-class-specifier: typedef (C11 6.7.1)
+    spec_typedef : {c : Context} {o : Token} {t : List Lexeme} →
+        IsSpec c (at (k.Word w.Typedef) o ∷ t) (spec.Typedef o.place) (record nothing { typedef = 1 }) 1 t
+    -- storage-class-specifier: extern (C11 6.7.1)
+    spec_extern : {c : Context} {o : Token} {t : List Lexeme} →
+        IsSpec c (at (k.Word w.Extern) o ∷ t) (spec.Extern o.place) (record nothing { extern = 1 }) 1 t
+    -- storage-class-specifier: static (C11 6.7.1)
+    spec_static : {c : Context} {o : Token} {t : List Lexeme} →
+        IsSpec c (at (k.Word w.Static) o ∷ t) (spec.Static o.place) (record nothing { static = 1 }) 1 t
+    -- function-specifier: inline (C11 6.7.4)
+    spec_inline : {c : Context} {o : Token} {t : List Lexeme} →
+        IsSpec c (at (k.Word w.Inline) o ∷ t) (spec.Inline o.place) (record nothing { inline = 1 }) 1 t
+    -- type-qualifier: const (C11 6.7.3)
     spec_const : {c : Context} {o : Token} {t : List Lexeme} → IsSpec c (at (k.Word w.Const) o ∷ t) (spec.Const o.place) nothing 1 t
-    spec_attributes : {c : Context} {s t : List Lexeme} {xs : List Attribute} → IsAttributeList s xs t → IsSpec c s (spec.Attributes xs (place_of s)) nothing 1 t
+    -- attribute-specifier (GCC manual, "Attribute Syntax")
+    spec_attributes : {c : Context} {s t : List Lexeme} {xs : List Attribute} → IsAttributeList s xs t →
+        IsSpec c s (spec.Attributes xs (place_of s)) nothing 1 t
+    -- type-specifier: void, char, short, int, long, signed, unsigned (C11 6.7.2)
     spec_basic : {c : Context} {word : Keyword} {x : BasicWord} {a : Tally} {o : Token} {t : List Lexeme} → basic_word word ≡ Some (x, a) →
         IsSpec c (at (k.Word word) o ∷ t) (spec.Basic x o.place) a 1 t
-    spec_type : {c : Context} {o : Token} {t : List Lexeme} → IsSpec c (at k.Type o ∷ t) (spec.TypedefName (text_of o) o.place) whole_type 1 t
-    -- C11 6.7.2.1 and 6.7.2.3
-    spec_tag : {c : Context} {word : Keyword} {a : Aggregate} {b : Terminal} {o q : Token} {t : List Lexeme} → aggregate_word word ≡ Some a → is_tag b ≡ true →
+    -- type-specifier: typedef-name (C11 6.7.2 and 6.7.8)
+    spec_type : {c : Context} {o : Token} {t : List Lexeme} →
+        IsSpec c (at k.Type o ∷ t) (spec.TypedefName (text_of o) o.place) whole_type 1 t
+    -- struct-or-union-specifier: struct-or-union identifier (C11 6.7.2.1 and 6.7.2.3)
+    spec_tag : {c : Context} {word : Keyword} {a : Aggregate} {b : Terminal} {o q : Token} {t : List Lexeme} →
+        aggregate_word word ≡ Some a → is_tag b ≡ true →
         IsSpec c (at (k.Word word) o ∷ at b q ∷ t) (spec.Tagged a (identifier q) None o.place) whole_type 1 t
-    spec_body : {c : Context} {h : ℕ} {word : Keyword} {a : Aggregate} {b : Terminal} {o q r : Token} {t u : List Lexeme} {xs : List MemberDecl} →
+    -- struct-or-union-specifier: struct-or-union identifier { struct-declaration-list } (C11 6.7.2.1)
+    spec_body : {c : Context} {h : ℕ} {word : Keyword} {a : Aggregate} {b : Terminal} {o q r : Token} {t u : List Lexeme}
+        {xs : List MemberDecl} →
         has_bodies c ≡ true → aggregate_word word ≡ Some a → is_tag b ≡ true → AreMembers t xs h u →
-        IsSpec c (at (k.Word word) o ∷ at b q ∷ at (k.Punct p.LeftBrace) r ∷ t) (spec.Tagged a (identifier q) (Some xs) o.place) whole_type (suc h) u
+        IsSpec c (at (k.Word word) o ∷ at b q ∷ at (k.Punct p.LeftBrace) r ∷ t) (spec.Tagged a (identifier q)
+        (Some xs) o.place) whole_type (suc h) u
+    -- struct-or-union-specifier: struct-or-union { struct-declaration-list } (C11 6.7.2.1)
     spec_untagged : {c : Context} {h : ℕ} {word : Keyword} {a : Aggregate} {o r : Token} {t u : List Lexeme} {xs : List MemberDecl} →
         has_bodies c ≡ true → aggregate_word word ≡ Some a → AreMembers t xs h u →
         IsSpec c (at (k.Word word) o ∷ at (k.Punct p.LeftBrace) r ∷ t) (spec.Untagged a xs o.place) whole_type (suc h) u
-    -- C11 6.7.2.2 and 6.7.2.3
+    -- enum-specifier: enum identifier (C11 6.7.2.2 and 6.7.2.3)
     spec_enum_tag : {c : Context} {b : Terminal} {o q : Token} {t : List Lexeme} → is_tag b ≡ true →
         IsSpec c (at (k.Word w.Enum) o ∷ at b q ∷ t) (spec.EnumTag (identifier q) o.place) whole_type 1 t
-    spec_enum_body : {c : Context} {h : ℕ} {b : Terminal} {o q r : Token} {t u : List Lexeme} {xs : List Enumerator} → has_bodies c ≡ true → is_tag b ≡ true →
+    -- enum-specifier: enum identifier { enumerator-list }, and with a comma behind the list (C11 6.7.2.2)
+    spec_enum_body : {c : Context} {h : ℕ} {b : Terminal} {o q r : Token} {t u : List Lexeme} {xs : List Enumerator} → has_bodies c ≡ true →
+        is_tag b ≡ true → AreEnumerators t xs h u →
+        IsSpec c (at (k.Word w.Enum) o ∷ at b q ∷ at (k.Punct p.LeftBrace) r ∷ t)
+        (spec.Enum (Some (identifier q)) xs o.place) whole_type (suc h) u
+    -- enum-specifier: enum { enumerator-list }, and with a comma behind the list (C11 6.7.2.2)
+    spec_enum_untagged : {c : Context} {h : ℕ} {o r : Token} {t u : List Lexeme} {xs : List Enumerator} → has_bodies c ≡ true →
         AreEnumerators t xs h u →
-        IsSpec c (at (k.Word w.Enum) o ∷ at b q ∷ at (k.Punct p.LeftBrace) r ∷ t) (spec.Enum (Some (identifier q)) xs o.place) whole_type (suc h) u
-    spec_enum_untagged : {c : Context} {h : ℕ} {o r : Token} {t u : List Lexeme} {xs : List Enumerator} → has_bodies c ≡ true → AreEnumerators t xs h u →
         IsSpec c (at (k.Word w.Enum) o ∷ at (k.Punct p.LeftBrace) r ∷ t) (spec.Enum None xs o.place) whole_type (suc h) u
 
   -- one specifier or more
   pub data AreSpecsAny : Context → List Lexeme → List Spec → Tally → ℕ → List Lexeme → Type 0 where
+    -- declaration-specifiers: one specifier (C11 6.7)
     one_spec : {c : Context} {h : ℕ} {a : Tally} {s t : List Lexeme} {x : Spec} → IsSpec c s x a h t → AreSpecsAny c s (x ∷ []) a h t
-    more_specs : {c : Context} {h j : ℕ} {a b : Tally} {s t u : List Lexeme} {x : Spec} {xs : List Spec} → IsSpec c s x a h t → AreSpecsAny c t xs b j u →
-        AreSpecsAny c s (x ∷ xs) (together a b) (max h j) u
+    -- declaration-specifiers: one specifier declaration-specifiers (C11 6.7)
+    more_specs : {c : Context} {h j : ℕ} {a b : Tally} {s t u : List Lexeme} {x : Spec} {xs : List Spec} → IsSpec c s x a h t →
+        AreSpecsAny c t xs b j u → AreSpecsAny c s (x ∷ xs) (together a b) (max h j) u
 
   -- that may stand together
   pub data AreSpecs : Context → List Lexeme → List Spec → Tally → ℕ → List Lexeme → Type 0 where
-    specs : {c : Context} {h : ℕ} {a : Tally} {s t : List Lexeme} {xs : List Spec} → AreSpecsAny c s xs a h t → may_stand c a ≡ true → AreSpecs c s xs a h t
+    specs : {c : Context} {h : ℕ} {a : Tally} {s t : List Lexeme} {xs : List Spec} → AreSpecsAny c s xs a h t → may_stand c a ≡ true →
+        AreSpecs c s xs a h t
 
   -- one declaration of members or more, up to and with the brace that closes them (C11 6.7.2.1)
   pub data AreMembers : List Lexeme → List MemberDecl → ℕ → List Lexeme → Type 0 where
-    last_member : {h : ℕ} {o : Token} {s t : List Lexeme} {x : MemberDecl} → IsMember s x h (at (k.Punct p.RightBrace) o ∷ t) → AreMembers s (x ∷ []) h t
-    more_members : {h j : ℕ} {s t u : List Lexeme} {x : MemberDecl} {xs : List MemberDecl} → IsMember s x h t → AreMembers t xs j u → AreMembers s (x ∷ xs) (max h j) u
+    -- struct-declaration-list: struct-declaration, before } (C11 6.7.2.1)
+    last_member : {h : ℕ} {o : Token} {s t : List Lexeme} {x : MemberDecl} → IsMember s x h (at (k.Punct p.RightBrace) o ∷ t) →
+        AreMembers s (x ∷ []) h t
+    -- struct-declaration-list: struct-declaration struct-declaration-list (C11 6.7.2.1)
+    more_members : {h j : ℕ} {s t u : List Lexeme} {x : MemberDecl} {xs : List MemberDecl} → IsMember s x h t → AreMembers t xs j u →
+        AreMembers s (x ∷ xs) (max h j) u
 
   pub data IsMember : List Lexeme → MemberDecl → ℕ → List Lexeme → Type 0 where
-    member_decl : {h j : ℕ} {s t u : List Lexeme} {xs : List Spec} {a : Tally} {ys : List Declarator} → AreSpecs outer s xs a h t → AreDeclarators t ys j u →
-        IsMember s (record { specs = xs; declarators = ys }) (max h j) u
+    -- struct-declaration: specifier-qualifier-list struct-declarator-list ; (C11 6.7.2.1)
+    member_decl : {h j : ℕ} {s t u : List Lexeme} {xs : List Spec} {a : Tally} {ys : List Declarator} → AreSpecs outer s xs a h t →
+        AreDeclarators t ys j u → IsMember s (record { specs = xs; declarators = ys }) (max h j) u
 
   -- one declarator or more, with commas between them, up to and with the semicolon
   pub data AreDeclarators : List Lexeme → List Declarator → ℕ → List Lexeme → Type 0 where
-    last_declarator : {h : ℕ} {o : Token} {s t : List Lexeme} {x : Declarator} {n : Declared} → IsDeclarator s x n h (at (k.Punct p.Semicolon) o ∷ t) → AreDeclarators s (x ∷ []) h t
-    more_declarators : {h j : ℕ} {o : Token} {s t u : List Lexeme} {x : Declarator} {n : Declared} {xs : List Declarator} → IsDeclarator s x n h (at (k.Punct p.Comma) o ∷ t) →
-        AreDeclarators t xs j u → AreDeclarators s (x ∷ xs) (max h j) u
+    -- struct-declarator-list: declarator, before ; (C11 6.7.2.1)
+    last_declarator : {h : ℕ} {o : Token} {s t : List Lexeme} {x : Declarator} {n : Declared} →
+        IsDeclarator s x n h (at (k.Punct p.Semicolon) o ∷ t) → AreDeclarators s (x ∷ []) h t
+    -- struct-declarator-list: declarator , struct-declarator-list (C11 6.7.2.1)
+    more_declarators : {h j : ℕ} {o : Token} {s t u : List Lexeme} {x : Declarator} {n : Declared} {xs : List Declarator} →
+        IsDeclarator s x n h (at (k.Punct p.Comma) o ∷ t) → AreDeclarators t xs j u → AreDeclarators s (x ∷ xs) (max h j) u
 
   -- one enumerator or more, with commas between them and perhaps one behind, up to and with the brace (C11 6.7.2.2)
   pub data AreEnumerators : List Lexeme → List Enumerator → ℕ → List Lexeme → Type 0 where
-    last_enumerator : {h : ℕ} {o : Token} {s t : List Lexeme} {x : Enumerator} → IsEnumerator s x h (at (k.Punct p.RightBrace) o ∷ t) → AreEnumerators s (x ∷ []) h t
-    last_enumerator_comma : {h : ℕ} {o q : Token} {s t : List Lexeme} {x : Enumerator} → IsEnumerator s x h (at (k.Punct p.Comma) o ∷ at (k.Punct p.RightBrace) q ∷ t) →
+    -- enumerator-list: enumerator, before } (C11 6.7.2.2)
+    last_enumerator : {h : ℕ} {o : Token} {s t : List Lexeme} {x : Enumerator} → IsEnumerator s x h (at (k.Punct p.RightBrace) o ∷ t) →
         AreEnumerators s (x ∷ []) h t
-    more_enumerators : {h j : ℕ} {o : Token} {s t u : List Lexeme} {x : Enumerator} {xs : List Enumerator} → IsEnumerator s x h (at (k.Punct p.Comma) o ∷ t) →
-        AreEnumerators t xs j u → AreEnumerators s (x ∷ xs) (max h j) u
+    -- enumerator-list: enumerator, before , } (C11 6.7.2.2)
+    last_enumerator_comma : {h : ℕ} {o q : Token} {s t : List Lexeme} {x : Enumerator} →
+        IsEnumerator s x h (at (k.Punct p.Comma) o ∷ at (k.Punct p.RightBrace) q ∷ t) → AreEnumerators s (x ∷ []) h t
+    -- enumerator-list: enumerator , enumerator-list (C11 6.7.2.2)
+    more_enumerators : {h j : ℕ} {o : Token} {s t u : List Lexeme} {x : Enumerator} {xs : List Enumerator} →
+        IsEnumerator s x h (at (k.Punct p.Comma) o ∷ t) → AreEnumerators t xs j u → AreEnumerators s (x ∷ xs) (max h j) u
 
   pub data IsEnumerator : List Lexeme → Enumerator → ℕ → List Lexeme → Type 0 where
-    enumerator : {o : Token} {t : List Lexeme} → IsEnumerator (at k.Name o ∷ t) (roll-Enumerator (record { name = identifier o; value = None })) 0 t
+    -- enumerator: enumeration-constant (C11 6.7.2.2)
+    enumerator : {o : Token} {t : List Lexeme} →
+        IsEnumerator (at k.Name o ∷ t) (roll-Enumerator (record { name = identifier o; value = None })) 0 t
+    -- enumerator: enumeration-constant = constant-expression (C11 6.7.2.2)
     enumerator_valued : {h : ℕ} {o q : Token} {s t : List Lexeme} {x : Expr} → IsExpr conditional s x h t →
         IsEnumerator (at k.Name o ∷ at (k.Punct p.Assign) q ∷ s) (roll-Enumerator (record { name = identifier o; value = Some x })) h t
 
   -- A declarator, and what it declares (C11 6.7.6).
   pub data IsDeclarator : List Lexeme → Declarator → Declared → ℕ → List Lexeme → Type 0 where
+    -- declarator: direct-declarator (C11 6.7.6)
     declarator_plain : {h : ℕ} {s t : List Lexeme} {x : Declarator} {n : Declared} → IsDirect s x n h t → IsDeclarator s x n h t
-    declarator_pointer : {h : ℕ} {o : Token} {s t u : List Lexeme} {ws : List PointerWord} {x : Declarator} {n : Declared} → ArePointerWords s ws t → IsDirect t x n h u →
+    -- declarator: pointer direct-declarator (C11 6.7.6)
+    declarator_pointer : {h : ℕ} {o : Token} {s t u : List Lexeme} {ws : List PointerWord} {x : Declarator} {n : Declared} →
+        ArePointerWords s ws t → IsDirect t x n h u →
         IsDeclarator (at (k.Punct p.Star) o ∷ s) (d.Pointer (pointer.Star ∷ ws) x o.place) (behind n other) (suc h) u
 
   pub data IsDirect : List Lexeme → Declarator → Declared → ℕ → List Lexeme → Type 0 where
-    direct_name : {o : Token} {t : List Lexeme} → IsDirect (at k.Name o ∷ t) (d.Name (text_of o) o.place) (record { name = text_of o; nearest = bare }) 1 t
-    direct_parens : {h : ℕ} {o q : Token} {t u : List Lexeme} {x : Declarator} {n : Declared} → IsDeclarator t x n h (at (k.Punct p.RightParen) q ∷ u) →
-        IsDirect (at (k.Punct p.LeftParen) o ∷ t) x n h u
-    direct_array : {h j : ℕ} {o : Token} {s t u : List Lexeme} {x : Declarator} {n : Declared} {y : Option Expr} → IsDirect s x n h (at (k.Punct p.LeftBracket) o ∷ t) →
-        IsBound t y j u → IsDirect s (d.Array x y (place_of s)) (behind n other) (suc (max h j)) u
-    direct_function : {h j : ℕ} {o : Token} {s t u : List Lexeme} {x : Declarator} {n : Declared} {y : Params} → IsDirect s x n h (at (k.Punct p.LeftParen) o ∷ t) →
-        AreParams t y j u → IsDirect s (d.Function x y (place_of s)) (behind n parameters) (suc (max h j)) u
+    -- direct-declarator: identifier (C11 6.7.6)
+    direct_name : {o : Token} {t : List Lexeme} →
+        IsDirect (at k.Name o ∷ t) (d.Name (text_of o) o.place) (record { name = text_of o; nearest = bare }) 1 t
+    -- direct-declarator: ( declarator ) (C11 6.7.6)
+    direct_parens : {h : ℕ} {o q : Token} {t u : List Lexeme} {x : Declarator} {n : Declared} →
+        IsDeclarator t x n h (at (k.Punct p.RightParen) q ∷ u) → IsDirect (at (k.Punct p.LeftParen) o ∷ t) x n h u
+    -- direct-declarator: direct-declarator [ constant-expression(opt) ] (C11 6.7.6.2)
+    direct_array : {h j : ℕ} {o : Token} {s t u : List Lexeme} {x : Declarator} {n : Declared} {y : Option Expr} →
+        IsDirect s x n h (at (k.Punct p.LeftBracket) o ∷ t) → IsBound t y j u →
+        IsDirect s (d.Array x y (place_of s)) (behind n other) (suc (max h j)) u
+    -- direct-declarator: direct-declarator ( parameter-type-list ), and with () or (void) (C11 6.7.6.3)
+    direct_function : {h j : ℕ} {o : Token} {s t u : List Lexeme} {x : Declarator} {n : Declared} {y : Params} →
+        IsDirect s x n h (at (k.Punct p.LeftParen) o ∷ t) → AreParams t y j u →
+        IsDirect s (d.Function x y (place_of s)) (behind n parameters) (suc (max h j)) u
 
   -- what stands between the brackets of a function declarator, up to and with the one that closes (C11 6.7.6.3)
   pub data AreParams : List Lexeme → Params → ℕ → List Lexeme → Type 0 where
+    -- direct-declarator: direct-declarator ( ), from its ) on (C11 6.7.6.3)
     no_params : {o : Token} {t : List Lexeme} → AreParams (at (k.Punct p.RightParen) o ∷ t) params.Empty 0 t
+    -- parameter-type-list: void, alone (C11 6.7.6.3p10)
     void_params : {o q : Token} {t : List Lexeme} → AreParams (at (k.Word w.Void) o ∷ at (k.Punct p.RightParen) q ∷ t) params.Void 0 t
-    some_params : {h : ℕ} {s t : List Lexeme} {xs : List Param} → is_void_alone s ≡ false → AreParamsSome s xs h t → AreParams s (params.List xs) h t
+    -- parameter-type-list: parameter-list (C11 6.7.6)
+    some_params : {h : ℕ} {s t : List Lexeme} {xs : List Param} → is_void_alone s ≡ false → AreParamsSome s xs h t →
+        AreParams s (params.List xs) h t
 
   pub data AreParamsSome : List Lexeme → List Param → ℕ → List Lexeme → Type 0 where
-    last_param : {h : ℕ} {o : Token} {s t : List Lexeme} {x : Param} → IsParam s x h (at (k.Punct p.RightParen) o ∷ t) → AreParamsSome s (x ∷ []) h t
-    more_params : {h j : ℕ} {o : Token} {s t u : List Lexeme} {x : Param} {xs : List Param} → IsParam s x h (at (k.Punct p.Comma) o ∷ t) → AreParamsSome t xs j u →
-        AreParamsSome s (x ∷ xs) (max h j) u
+    -- parameter-list: parameter-declaration, before ) (C11 6.7.6)
+    last_param : {h : ℕ} {o : Token} {s t : List Lexeme} {x : Param} → IsParam s x h (at (k.Punct p.RightParen) o ∷ t) →
+        AreParamsSome s (x ∷ []) h t
+    -- parameter-list: parameter-declaration , parameter-list (C11 6.7.6)
+    more_params : {h j : ℕ} {o : Token} {s t u : List Lexeme} {x : Param} {xs : List Param} → IsParam s x h (at (k.Punct p.Comma) o ∷ t) →
+        AreParamsSome t xs j u → AreParamsSome s (x ∷ xs) (max h j) u
 
   pub data IsParam : List Lexeme → Param → ℕ → List Lexeme → Type 0 where
-    param_named : {h j : ℕ} {s t u : List Lexeme} {xs : List Spec} {a : Tally} {x : Declarator} {n : Declared} → AreSpecs inner s xs a h t → IsDeclarator t x n j u →
-        IsParam s (record { specs = xs; declarator = x }) (max h j) u
-    param_abstract : {h j : ℕ} {s t u : List Lexeme} {xs : List Spec} {a : Tally} {x : Declarator} → AreSpecs inner s xs a h t → IsAbstract (place_of s) t x j u →
-        IsParam s (record { specs = xs; declarator = x }) (max h j) u
+    -- parameter-declaration: declaration-specifiers declarator (C11 6.7.6)
+    param_named : {h j : ℕ} {s t u : List Lexeme} {xs : List Spec} {a : Tally} {x : Declarator} {n : Declared} → AreSpecs inner s xs a h t →
+        IsDeclarator t x n j u → IsParam s (record { specs = xs; declarator = x }) (max h j) u
+    -- parameter-declaration: declaration-specifiers abstract-declarator(opt) (C11 6.7.6)
+    param_abstract : {h j : ℕ} {s t u : List Lexeme} {xs : List Spec} {a : Tally} {x : Declarator} → AreSpecs inner s xs a h t →
+        IsAbstract (place_of s) t x j u → IsParam s (record { specs = xs; declarator = x }) (max h j) u

@@ -1,9 +1,10 @@
 -- External declarations, and what a list of tokens derives: a file's tree, or the first refusal (C11 6.9).
-use Rattle.std.specs.Prelude.{◌≡◌, ◌≤◌, ℕ, suc, pred, max, List, [], ◌∷◌, ◌++◌, map, length, Option, Some, None, Result, Ok, Err, Bool, false, if◌then◌else◌, ◌==◌}
+use Rattle.std.specs.Prelude.{◌≡◌, ◌≤◌, ℕ, suc, pred, max, List, [], ◌∷◌, ◌++◌, map, length, Option, Some, None, Result, Ok, Err, Bool}
+use Rattle.std.specs.Prelude.{false, if◌then◌else◌, ◌==◌}
 use Rattle.fc_base.specs.declared.refusals.Place.{Place}
 use Rattle.fc_base.specs.declared.refusals.Refusal.{Refusal}
 use Rattle.fc_base.specs.declared.rules.Rule.TheVariants as rule
-use Rattle.c_tokens.specs.declared.puncts.HeaderId.{HeaderId}
+use Rattle.c_headers.specs.declared.headers.HeaderId.{HeaderId}
 use Rattle.c_tokens.specs.declared.puncts.Punct.TheVariants as p
 use Rattle.c_tokens.specs.declared.tokens.Token.{Token}
 use Rattle.c_tokens.specs.declared.tokens.TokenKind.{TokenKind}
@@ -33,14 +34,18 @@ type_names a ns = if a.typedef == 0 then [] else map (λ n. n.name) ns
 
 -- An external declaration, and the names of types that it makes.
 pub data IsExternal : List Lexeme → External → List (List ℕ) → ℕ → List Lexeme → Type 0 where
-  header : {o : Token} {id : HeaderId} {t : List Lexeme} → o.kind ≡ kind.Header id → IsExternal (at k.Header o ∷ t) (x.Header id o.place) (header_types id) 1 t
-  -- C11 6.7, without declarators and with them
-  undeclared : {h : ℕ} {o : Token} {a t : List Lexeme} {xs : List Spec} {tally : Tally} → AreSpecs outer a xs tally h (at (k.Punct p.Semicolon) o ∷ t) →
-      IsExternal a (x.Declaration xs [] (place_of a)) [] (suc h) t
-  declaration : {h j : ℕ} {a t u : List Lexeme} {xs : List Spec} {tally : Tally} {ys : List InitDeclarator} {ns : List Declared} → AreSpecs outer a xs tally h t →
-      AreInitDeclarators t ys ns j u → IsExternal a (x.Declaration xs ys (place_of a)) (type_names tally ns) (suc (max h j)) u
-  -- C11 6.9.1
-  function : {h j m : ℕ} {o : Token} {a t u v : List Lexeme} {xs : List Spec} {tally : Tally} {y : Declarator} {n : Declared} {zs : List Stmt} →
+  header : {o : Token} {id : HeaderId} {t : List Lexeme} → o.kind ≡ kind.Header id →
+      IsExternal (at k.Header o ∷ t) (x.Header id o.place) (header_types id) 1 t
+  -- external-declaration: declaration; declaration: declaration-specifiers ; (C11 6.9 and 6.7)
+  undeclared : {h : ℕ} {o : Token} {a t : List Lexeme} {xs : List Spec} {tally : Tally} →
+      AreSpecs outer a xs tally h (at (k.Punct p.Semicolon) o ∷ t) → IsExternal a (x.Declaration xs [] (place_of a)) [] (suc h) t
+  -- external-declaration: declaration; declaration: declaration-specifiers init-declarator-list ; (C11 6.9 and 6.7)
+  declaration : {h j : ℕ} {a t u : List Lexeme} {xs : List Spec} {tally : Tally} {ys : List InitDeclarator} {ns : List Declared} →
+      AreSpecs outer a xs tally h t → AreInitDeclarators t ys ns j u →
+      IsExternal a (x.Declaration xs ys (place_of a)) (type_names tally ns) (suc (max h j)) u
+  -- function-definition: declaration-specifiers declarator compound-statement (C11 6.9.1)
+  function : {h j m : ℕ} {o : Token} {a t u v : List Lexeme} {xs : List Spec} {tally : Tally} {y : Declarator} {n : Declared}
+      {zs : List Stmt} →
       AreSpecs outer a xs tally h t → IsDeclarator t y n j (at (k.Punct p.LeftBrace) o ∷ u) → AreItems u zs m v →
       IsExternal a (x.Function xs y (s.Block zs o.place) (place_of a)) (type_names tally (n ∷ [])) (suc (max h (max j (suc m)))) v
 
@@ -71,8 +76,8 @@ pub data Declares : List (List ℕ) → List Token → Declarations → Type 0 w
   end : {types : List (List ℕ)} → Declares types [] (Ok [])
   external : {types names : List (List ℕ)} {s t : List Token} {x : External} {out : Declarations} → BeginsFirst types s x names t →
       Declares (types ++ names) t out → Declares types s (behind x out)
-  refused : {types : List (List ℕ)} {o : Token} {s : List Token} → ((x : External) (names : List (List ℕ)) (t : List Token) → Begins types (o ∷ s) x names t → ⊥) →
-      Declares types (o ∷ s) (Err o.place)
+  refused : {types : List (List ℕ)} {o : Token} {s : List Token} →
+      ((x : External) (names : List (List ℕ)) (t : List Token) → Begins types (o ∷ s) x names t → ⊥) → Declares types (o ∷ s) (Err o.place)
 
 -- the place of the first keyword that is left out
 abbrev pub is_left_out : TokenKind → Bool
@@ -108,8 +113,10 @@ first_deep count (o ∷ s) = first_deep_by (λ n. first_deep n s) count o.place 
 
 -- What a file's tokens derive: its tree, or the first refusal. Each rule looks at the whole file before the next.
 pub data Derives : List Token → Result FileTree Refusal → Type 0 where
-  left_out : {s : List Token} {place : Place} → first_left_out s ≡ Some place → Derives s (Err (record { rule = rule.LeftOutKeyword; place = place }))
-  deep : {s : List Token} {place : Place} → first_left_out s ≡ None → first_deep 0 s ≡ Some place → Derives s (Err (record { rule = rule.LimitDepth; place = place }))
+  left_out : {s : List Token} {place : Place} → first_left_out s ≡ Some place →
+      Derives s (Err (record { rule = rule.LeftOutKeyword; place = place }))
+  deep : {s : List Token} {place : Place} → first_left_out s ≡ None → first_deep 0 s ≡ Some place →
+      Derives s (Err (record { rule = rule.LimitDepth; place = place }))
   refused_syntax : {s : List Token} {place : Place} → first_left_out s ≡ None → first_deep 0 s ≡ None → Declares [] s (Err place) →
       Derives s (Err (record { rule = rule.Syntax; place = place }))
   derived : {s : List Token} {xs : List External} → first_left_out s ≡ None → first_deep 0 s ≡ None → Declares [] s (Ok xs) →

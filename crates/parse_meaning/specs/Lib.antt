@@ -4,7 +4,3 @@ pub mod Expressions
 pub mod Statements
 pub mod File
 pub mod Spans
-pub mod Reading
-pub mod ReadingDeclarators
-pub mod ReadingStatements
-pub mod ReadingFile

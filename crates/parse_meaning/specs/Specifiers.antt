@@ -23,7 +23,20 @@ pub record Tally : Type 0 where
   pub unsigned : ℕ
 
 abbrev pub nothing : Tally
-nothing = record { typedef = 0; extern = 0; static = 0; inline = 0; whole = 0; void = 0; char = 0; short = 0; int = 0; long = 0; signed = 0; unsigned = 0 }
+nothing = record {
+  typedef = 0;
+  extern = 0;
+  static = 0;
+  inline = 0;
+  whole = 0;
+  void = 0;
+  char = 0;
+  short = 0;
+  int = 0;
+  long = 0;
+  signed = 0;
+  unsigned = 0;
+}
 
 abbrev pub whole_type : Tally
 whole_type = record nothing { whole = 1 }

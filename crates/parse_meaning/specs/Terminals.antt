@@ -1,11 +1,11 @@
 -- What a token is to the grammar: a keyword, the name of a type, another name, a constant, a string literal, a
 -- punctuator, or an inclusion (C11 6.4).
-use Rattle.std.specs.Prelude.{ℕ, List, [], ◌∷◌, Option, Some, None, Bool, true, false, if◌then◌else◌, codes}
+use Rattle.std.specs.Prelude.{ℕ, List, [], ◌∷◌, map, Option, Some, None, Bool, true, false, if◌then◌else◌, codes}
 use Rattle.std.specs.Str.{bytes_eq}
 use Rattle.std.specs.List.{list_any}
 use Rattle.fc_base.specs.declared.refusals.Place.{Place}
-use Rattle.c_tokens.specs.declared.puncts.HeaderId.{HeaderId}
-use Rattle.c_tokens.specs.declared.puncts.HeaderId.TheVariants as header
+use Rattle.c_headers.specs.declared.headers.HeaderId.{HeaderId}
+use Rattle.c_headers.specs.Headers.{header_row}
 use Rattle.c_tokens.specs.declared.tokens.Token.{Token}
 use Rattle.c_tokens.specs.declared.tokens.TokenKind.{TokenKind}
 use Rattle.c_tokens.specs.declared.tokens.TokenKind.TheVariants as kind
@@ -89,14 +89,6 @@ abbrev pub place_of : List Lexeme → Place
 place_of [] = record { line = 1; col = 1 }
 place_of (at c o ∷ t) = o.place
 
--- the names of types that the declarations of a header make (C11 7.19, 7.20; POSIX)
+-- the names of types that the declarations of a header make
 abbrev pub header_types : HeaderId → List (List ℕ)
-header_types header.String = codes "size_t" ∷ []
-header_types header.Strings = []
-header_types header.Stdio = codes "size_t" ∷ []
-header_types header.Stdlib = codes "size_t" ∷ []
-header_types header.Stddef = codes "size_t" ∷ codes "ptrdiff_t" ∷ []
-header_types header.Stdint =
-    codes "int8_t" ∷ codes "int16_t" ∷ codes "int32_t" ∷ codes "int64_t"
-    ∷ codes "uint8_t" ∷ codes "uint16_t" ∷ codes "uint32_t" ∷ codes "uint64_t" ∷ []
-header_types header.Unistd = codes "size_t" ∷ codes "ssize_t" ∷ []
+header_types id = map (λ t. t.name) (header_row id).types

@@ -1,33 +1,13 @@
-//! Laws of the grammar: one list of tokens has one outcome, so that no production is ever preferred to another and an
-//! `else` has one `if`; and the heights that derivations count are those of their trees.
+//! Laws of the grammar: the heights that derivations count are those of their trees.
 
-ghost use Rattle.std.specs.Prelude.{◌≡◌, ◌≤◌, ℕ, List, [], Result};
-ghost use Rattle.fc_base.specs.declared.refusals.Refusal.{Refusal};
-ghost use Rattle.c_tokens.specs.declared.tokens.Token.{Token};
+ghost use Rattle.std.specs.Prelude.{◌≡◌, ℕ, List};
 ghost use Rattle.c_tree.specs.declared.nodes.Expr.{Expr};
 ghost use Rattle.c_tree.specs.declared.externals.External.{External};
 ghost use Rattle.c_tree.specs.declared.externals.FileTree.{FileTree};
 ghost use Rattle.c_tree.specs.Heights.{IsWithinHeight, expr_height, external_height};
 ghost use Rattle.parse_meaning.specs.Terminals.{Lexeme};
-ghost use Rattle.parse_meaning.specs.Expressions.{IsExpr, expression};
-ghost use Rattle.parse_meaning.specs.File.{Begins, Derives, IsDerived, IsExternal};
-
-/// The tokens of an expression are one tree at each level.
-pub fn expression_is_one()
-    ensures { (l h j : ℕ) (s : List Lexeme) (x y : Expr) → l ≤ expression → IsExpr l s x h [] → IsExpr l s y j [] → (x ≡ y) × (h ≡ j) }
-{}
-
-/// A list begins with one external declaration at most, so the shortest that it begins with is the only one.
-pub fn external_is_one()
-    ensures { (types names others : List (List ℕ)) (s t u : List Token) (x y : External) → Begins types s x names t → Begins types s y others u →
-        (x ≡ y) × (names ≡ others) × (t ≡ u) }
-{}
-
-/// A list of tokens derives one tree or refusal.
-pub fn derives_one()
-    ensures one { (s : List Token) (a b : Result FileTree Refusal) → Derives s a → Derives s b → a ≡ b }
-    ensures some { (s : List Token) → (out : Result FileTree Refusal) × Derives s out }
-{}
+ghost use Rattle.parse_meaning.specs.Expressions.{IsExpr};
+ghost use Rattle.parse_meaning.specs.File.{IsDerived, IsExternal};
 
 /// The number of a derivation is the height of its tree.
 pub fn height_is_its_trees()

@@ -1,10 +1,9 @@
 //! What a token is to the grammar.
 
 use c_tokens::Punct;
-use c_tree::{AssignOp, BinaryOp, PostfixOp};
 
 /// A keyword of C11 6.4.1 that the grammar has, or one of its two extensions.
-#[derive(Clone, Copy, Debug, PartialEq, Eq)]
+#[derive(Clone, Copy, PartialEq, Eq)]
 pub enum Keyword {
     /// `__attribute__`
     Attribute,
@@ -41,7 +40,7 @@ pub enum Keyword {
 }
 
 /// What a token is to the grammar. Its text, value and place are the token's.
-#[derive(Clone, Copy, Debug, PartialEq, Eq)]
+#[derive(Clone, Copy)]
 pub enum Terminal {
     /// A name that is neither a keyword nor the name of a type.
     Name,
@@ -60,7 +59,7 @@ pub enum Terminal {
 }
 
 /// A kind of bracket.
-#[derive(Clone, Copy, Debug, PartialEq, Eq)]
+#[derive(Clone, Copy, PartialEq, Eq)]
 pub enum Brackets {
     /// `(` and `)`
     Round,
@@ -68,25 +67,4 @@ pub enum Brackets {
     Square,
     /// `{` and `}`
     Curly,
-}
-
-/// How an expression goes on with a token.
-#[derive(Clone, Copy, Debug, PartialEq, Eq)]
-pub enum Operator {
-    Call,
-    Index,
-    /// `->`, or `.`.
-    Member { arrow: bool },
-    Step(PostfixOp),
-    /// `?`
-    Choice,
-    Assign(AssignOp),
-    /// An operator that groups to the left, and the level of its right operand.
-    Join(BinaryOp, u8),
-    /// `,`
-    List,
-    /// A string literal, which is a part of the one before it.
-    Str,
-    /// The expression ends.
-    End,
 }

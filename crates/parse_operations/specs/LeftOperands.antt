@@ -1,7 +1,7 @@
 -- An expression so far: what has been read of it, and its level.
 use Rattle.std.specs.Prelude.{◌≡◌, ◌≢◌, List, Option, Some, None, Result, Ok, Err}
 use Rattle.parse_meaning.specs.Terminals.{Lexeme}
-use Rattle.parse_meaning.specs.Reading.{LeftOperand, left}
+use Rattle.parse_reading.specs.Reading.{LeftOperand, left}
 use Rattle.parse_tokens.specs.declared.faults.ParseFault.{ParseFault}
 use Rattle.parse_tokens.specs.declared.faults.ParseFault.TheVariants as fault
 use Rattle.parse_operations.specs.declared.left_operands.LeftOperand as held

@@ -5,7 +5,8 @@ use Rattle.c_tree.specs.declared.nodes.Expr.{Expr}
 use Rattle.c_tree.specs.declared.nodes.ExprKind.TheVariants as e
 use Rattle.parse_meaning.specs.Terminals.{Lexeme}
 use Rattle.parse_meaning.specs.Expressions.{expr}
-use Rattle.parse_meaning.specs.Reading.{Read, LeftOperand, left}
+use Rattle.parse_reading.specs.Reading.{Read, LeftOperand, left}
+use Rattle.parse_tokens.specs.Rooms.{height_room}
 use Rattle.parse_tokens.specs.declared.faults.WithHeight.{WithHeight}
 use Rattle.parse_operations.specs.declared.operations.Operation.{Operation}
 use Rattle.parse_operations.specs.declared.operations.Operation.TheVariants as tail
@@ -15,14 +16,14 @@ tall x = record { tree = x.tree; height = x.height }
 
 -- no part is very high, and an operator has a level
 abbrev pub FitsOperation : Operation → Type 0
-FitsOperation (tail.Call xs) = xs.height < 2000
-FitsOperation (tail.Index y) = y.height < 2000
+FitsOperation (tail.Call xs) = xs.height < height_room
+FitsOperation (tail.Index y) = y.height < height_room
 FitsOperation (tail.Member arrow name place) = Unit {0}
 FitsOperation (tail.Step b) = Unit {0}
-FitsOperation (tail.Choice y z) = (y.height < 2000) × (z.height < 2000)
-FitsOperation (tail.Assign b y) = y.height < 2000
-FitsOperation (tail.Join b l y) = (l ≤ 16) × (y.height < 2000)
-FitsOperation (tail.List xs) = xs.height < 2000
+FitsOperation (tail.Choice y z) = (y.height < height_room) × (z.height < height_room)
+FitsOperation (tail.Assign b y) = y.height < height_room
+FitsOperation (tail.Join b l y) = (l ≤ 16) × (y.height < height_room)
+FitsOperation (tail.List xs) = xs.height < height_room
 
 -- an expression with a tail: where it started, what it was, how high it was, and the token's place
 abbrev pub with_operation : Place → Expr → ℕ → Operation → Place → List Lexeme → LeftOperand

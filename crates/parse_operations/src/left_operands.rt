@@ -4,9 +4,11 @@ ghost use Rattle.std.specs.Prelude.{◌≡◌, IfOk};
 
 use c_tree::{Expr, ExprKind};
 use fc_base::Place;
+use parse_leaves::boxed_behind;
 use parse_tokens::WithHeight;
 use sqlite_items::Boxed;
 use std::alloc::{AllocError, Global};
+use tree_drops::{IntoBox, LetGo, both};
 
 /// An expression so far, and its level.
 #[derive(Drop)]
@@ -14,6 +16,12 @@ pub struct LeftOperand {
     pub level: u8,
     pub tree: Expr,
     pub height: usize,
+}
+
+impl LetGo for LeftOperand {
+    fn let_go(self) {
+        self.tree.let_go();
+    }
 }
 
 impl LeftOperand {
@@ -42,20 +50,20 @@ impl LeftOperand {
 }
 
 /// Two parts of a node.
-pub fn boxed_pair<A: Drop, B: Drop>(
+pub fn boxed_pair<A: IntoBox, B: IntoBox>(
     alloc: Global,
     a: A,
     b: B,
 ) -> Result<(Boxed<A>, Boxed<B>), AllocError>
     ensures { IfOk result (λ pair. pair ≡ (a, b)) }
 {
-    let a = Boxed::new(alloc, a)?;
-    let b = Boxed::new(alloc, b)?;
+    let (a, b) = boxed_behind(alloc, a, b)?;
+    let (b, a) = boxed_behind(alloc, b, a)?;
     Ok((a, b))
 }
 
 /// Three parts of a node.
-pub fn boxed_three<A: Drop, B: Drop, C: Drop>(
+pub fn boxed_three<A: IntoBox, B: IntoBox, C: IntoBox>(
     alloc: Global,
     a: A,
     b: B,
@@ -63,7 +71,7 @@ pub fn boxed_three<A: Drop, B: Drop, C: Drop>(
 ) -> Result<(Boxed<A>, Boxed<B>, Boxed<C>), AllocError>
     ensures { IfOk result (λ parts. parts ≡ (a, b, c)) }
 {
-    let (a, b) = boxed_pair(alloc, a, b)?;
-    let c = Boxed::new(alloc, c)?;
+    let (c, pair) = both(c, boxed_pair(alloc, a, b))?;
+    let ((a, b), c) = boxed_behind(alloc, pair, c)?;
     Ok((a, b, c))
 }

@@ -2,6 +2,7 @@
 
 ghost use Rattle.std.specs.Prelude.{◌≡◌, ◌≤◌, ◌<◌, ◌∷◌, List, suc, max, IfOk};
 ghost use Rattle.c_tree.specs.declared.nodes.ExprKind.TheVariants as e;
+ghost use Rattle.parse_tokens.specs.Rooms.{height_room};
 ghost use Rattle.parse_meaning.specs.Terminals.{Lexeme};
 ghost use Rattle.parse_meaning.specs.Expressions.{expr};
 ghost use Rattle.parse_operations.specs.LeftOperands.{as_left_operand};
@@ -13,8 +14,9 @@ use fc_base::{Place, Text};
 use parse_leaves::boxed_behind;
 use parse_operators::{ASSIGNMENT, CONDITIONAL, EXPRESSION, POSTFIX};
 use parse_tokens::WithHeight;
-use sqlite_items::{Boxed, Items};
+use sqlite_items::Items;
 use std::alloc::{AllocError, Global};
+use tree_drops::{IntoBox, expr_list};
 
 /// What stands behind an expression and makes it one of a looser level.
 #[derive(Drop)]
@@ -50,8 +52,8 @@ fn call(
     left: LeftOperand,
     args: WithHeight<Items<Expr>>,
 ) -> Result<LeftOperand, AllocError>
-    requires left { left.height < 2000 }
-    requires args { args.height < 2000 }
+    requires left { left.height < height_room }
+    requires args { args.height < height_room }
     ensures { IfOk result (λ x. x ≡ record { level = 1; tree = expr (e.Call left.tree args.tree) left.tree.place; height = suc (max left.height args.height) }) }
 {
     let place = left.tree.place;
@@ -67,8 +69,8 @@ fn index(
     index: WithHeight<Expr>,
     place: Place,
 ) -> Result<LeftOperand, AllocError>
-    requires left { left.height < 2000 }
-    requires index { index.height < 2000 }
+    requires left { left.height < height_room }
+    requires index { index.height < height_room }
     ensures { IfOk result (λ x. x ≡ record { level = 1; tree = expr (e.Index left.tree index.tree) place; height = suc (max left.height index.height) }) }
 {
     let height = left.height.max(index.height) + 1;
@@ -84,7 +86,7 @@ fn member(
     name: Text,
     place: Place,
 ) -> Result<LeftOperand, AllocError>
-    requires { left.height < 2000 }
+    requires { left.height < height_room }
     ensures { IfOk result (λ x. x ≡ record { level = 1; tree = expr (e.Member left.tree arrow name) place; height = suc left.height }) }
 {
     let height = left.height + 1;
@@ -104,11 +106,11 @@ fn step(
     op: PostfixOp,
     start: Place,
 ) -> Result<LeftOperand, AllocError>
-    requires { left.height < 2000 }
+    requires { left.height < height_room }
     ensures { IfOk result (λ x. x ≡ record { level = 1; tree = expr (e.Postfix op left.tree) start; height = suc left.height }) }
 {
     let height = left.height + 1;
-    let of = Boxed::new(alloc, left.tree)?;
+    let of = Expr::boxed(alloc, left.tree)?;
     Ok(LeftOperand::new(POSTFIX, ExprKind::Postfix { op, of }, start, height))
 }
 
@@ -120,9 +122,9 @@ fn choice(
     no: WithHeight<Expr>,
     place: Place,
 ) -> Result<LeftOperand, AllocError>
-    requires left { left.height < 2000 }
-    requires yes { yes.height < 2000 }
-    requires no { no.height < 2000 }
+    requires left { left.height < height_room }
+    requires yes { yes.height < height_room }
+    requires no { no.height < height_room }
     ensures { IfOk result (λ x. x ≡ record { level = 14; tree = expr (e.Cond left.tree yes.tree no.tree) place; height = suc (max left.height (max yes.height no.height)) }) }
 {
     let height = left.height.max(yes.height.max(no.height)) + 1;
@@ -138,8 +140,8 @@ fn assign(
     from: WithHeight<Expr>,
     place: Place,
 ) -> Result<LeftOperand, AllocError>
-    requires left { left.height < 2000 }
-    requires from { from.height < 2000 }
+    requires left { left.height < height_room }
+    requires from { from.height < height_room }
     ensures { IfOk result (λ x. x ≡ record { level = 15; tree = expr (e.Assign op left.tree from.tree) place; height = suc (max left.height from.height) }) }
 {
     let height = left.height.max(from.height) + 1;
@@ -156,8 +158,8 @@ fn join(
     right: WithHeight<Expr>,
     place: Place,
 ) -> Result<LeftOperand, AllocError>
-    requires left { left.height < 2000 }
-    requires right { right.height < 2000 }
+    requires left { left.height < height_room }
+    requires right { right.height < height_room }
     requires level { level ≤ 16 }
     ensures { IfOk result (λ x. x ≡ record { level = suc level; tree = expr (e.Binary op left.tree right.tree) place; height = suc (max left.height right.height) }) }
 {
@@ -173,14 +175,12 @@ fn list(
     others: WithHeight<Items<Expr>>,
     start: Place,
 ) -> Result<LeftOperand, AllocError>
-    requires left { left.height < 2000 }
-    requires others { others.height < 2000 }
+    requires left { left.height < height_room }
+    requires others { others.height < height_room }
     ensures { IfOk result (λ x. x ≡ record { level = 16; tree = expr (e.Comma (left.tree ∷ others.tree)) start; height = suc (max left.height others.height) }) }
 {
     let height = left.height.max(others.height) + 1;
-    let mut all = Items::new(alloc);
-    all.push(left.tree)?;
-    all.append(others.tree)?;
+    let all = expr_list(alloc, left.tree, others.tree)?;
     Ok(LeftOperand::new(EXPRESSION, ExprKind::Comma(all), start, height))
 }
 
@@ -192,7 +192,7 @@ pub fn with_operation(
     start: Place,
     place: Place,
 ) -> Result<LeftOperand, AllocError>
-    requires left { left.height < 2000 }
+    requires left { left.height < height_room }
     requires tail { FitsOperation tail }
     ensures { IfOk result (λ x. (t : List Lexeme) → as_left_operand x t ≡ with_operation start left.tree left.height tail place t) }
 {

@@ -1,7 +1,7 @@
 //! How an expression goes on with a token.
 
 ghost use Rattle.std.specs.Prelude.{◌≡◌, ◌≤◌};
-ghost use Rattle.parse_meaning.specs.Reading as spec;
+ghost use Rattle.parse_reading.specs.Reading as spec;
 
 use crate::levels::{
     ADDITIVE, ASSIGNMENT, BIT_AND, BIT_OR, BIT_XOR, CAST, CONDITIONAL, EQUALITY, EXPRESSION,
@@ -9,7 +9,8 @@ use crate::levels::{
 };
 use c_tokens::Punct;
 use c_tree::{AssignOp, BinaryOp, PostfixOp};
-use parse_meaning::{Operator, Terminal};
+use parse_meaning::Terminal;
+use parse_reading::Operator;
 use parse_tokens::Tokens;
 
 fn operator_of_punct(punct: Punct) -> Operator

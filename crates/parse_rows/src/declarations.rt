@@ -29,16 +29,16 @@ const DECLARATORS: &[(&str, &str)] = &[
     ),
     ("int f(void *);", "Int f function(1); "),
     ("int a[sizeof(int *)];", "Int a array..; "),
-    ("int a[sizeof(int x)];", "Syntax 1:1"),
-    ("int f(int (*)(void));", "Syntax 1:1"),
+    ("int a[sizeof(int x)];", "syntax 1:1"),
+    ("int f(int (*)(void));", "syntax 1:1"),
     // none
-    ("int *;", "Syntax 1:1"),
-    ("int (a;", "Syntax 1:1"),
-    ("int a b;", "Syntax 1:1"),
-    ("int 3;", "Syntax 1:1"),
-    ("int f(int,);", "Syntax 1:1"),
-    ("int f(a);", "Syntax 1:1"),
-    ("int a[1;", "Syntax 1:1"),
+    ("int *;", "syntax 1:1"),
+    ("int (a;", "syntax 1:1"),
+    ("int a b;", "syntax 1:1"),
+    ("int 3;", "syntax 1:1"),
+    ("int f(int,);", "syntax 1:1"),
+    ("int f(a);", "syntax 1:1"),
+    ("int a[1;", "syntax 1:1"),
 ];
 
 /// C11 6.7.1 to 6.7.4
@@ -50,9 +50,9 @@ const SPECIFIERS: &[(&str, &str)] = &[
         "static const Unsigned Long Int Long a; ",
     ),
     ("int const extern a;", "Int const extern a; "),
-    ("static extern int a;", "Syntax 1:1"),
-    ("typedef static int a;", "Syntax 1:1"),
-    ("int f(static int a, typedef int b);", "Syntax 1:1"),
+    ("static extern int a;", "syntax 1:1"),
+    ("typedef static int a;", "syntax 1:1"),
+    ("int f(static int a, typedef int b);", "syntax 1:1"),
     // structures and unions (C11 6.7.2.1)
     ("struct s;", "Struct s ; "),
     ("union u { int a; };", "Union u{1} ; "),
@@ -65,26 +65,26 @@ const SPECIFIERS: &[(&str, &str)] = &[
         "Struct s{2} static d; ",
     ),
     ("const struct s a;", "const Struct s a; "),
-    ("struct { } s;", "Syntax 1:1"),
-    ("struct { int; } s;", "Syntax 1:1"),
-    ("struct { int a } s;", "Syntax 1:1"),
-    ("struct { int a : 3; } s;", "Syntax 1:1"),
-    ("struct { int a = 1; } s;", "Syntax 1:1"),
-    ("struct s { int a; } int b;", "Syntax 1:1"),
-    ("struct s union u a;", "Syntax 1:1"),
+    ("struct { } s;", "syntax 1:1"),
+    ("struct { int; } s;", "syntax 1:1"),
+    ("struct { int a } s;", "syntax 1:1"),
+    ("struct { int a : 3; } s;", "syntax 1:1"),
+    ("struct { int a = 1; } s;", "syntax 1:1"),
+    ("struct s { int a; } int b;", "syntax 1:1"),
+    ("struct s union u a;", "syntax 1:1"),
     // enumerations (C11 6.7.2.2)
     ("enum e;", "enum e ; "),
     ("enum { A, B = 2, C } a;", "enum{3} a; "),
     ("enum e { A = 1, };", "enum{1} ; "),
-    ("enum { } a;", "Syntax 1:1"),
-    ("enum { A,, B } a;", "Syntax 1:1"),
-    ("enum { 1 } a;", "Syntax 1:1"),
-    ("enum e long a;", "Syntax 1:1"),
+    ("enum { } a;", "syntax 1:1"),
+    ("enum { A,, B } a;", "syntax 1:1"),
+    ("enum { 1 } a;", "syntax 1:1"),
+    ("enum e long a;", "syntax 1:1"),
     // no type, and two
-    ("const a;", "Syntax 1:1"),
-    ("static a;", "Syntax 1:1"),
-    ("a;", "Syntax 1:1"),
-    ("int struct s a;", "Syntax 1:1"),
+    ("const a;", "syntax 1:1"),
+    ("static a;", "syntax 1:1"),
+    ("a;", "syntax 1:1"),
+    ("int struct s a;", "syntax 1:1"),
 ];
 
 /// The words of basic types that C11 6.7.2 lets stand together, and how they are shown.
@@ -188,16 +188,16 @@ const ATTRIBUTES: &[(&str, &str)] = &[
         "Int f function(void) {Int a attributes1 = 1; }; ",
     ),
     // elsewhere
-    ("int a = 1 __attribute__((b));", "Syntax 1:1"),
-    ("int * __attribute__((a)) b;", "Syntax 1:1"),
-    ("int f(int a __attribute__((b)));", "Syntax 1:1"),
-    ("struct { int a __attribute__((b)); } c;", "Syntax 1:1"),
-    ("struct __attribute__((a)) s b;", "Syntax 1:1"),
-    ("int f(void) __attribute__((a)) { }", "Syntax 1:1"),
+    ("int a = 1 __attribute__((b));", "syntax 1:1"),
+    ("int * __attribute__((a)) b;", "syntax 1:1"),
+    ("int f(int a __attribute__((b)));", "syntax 1:1"),
+    ("struct { int a __attribute__((b)); } c;", "syntax 1:1"),
+    ("struct __attribute__((a)) s b;", "syntax 1:1"),
+    ("int f(void) __attribute__((a)) { }", "syntax 1:1"),
     // none
-    ("__attribute__(a) int b;", "Syntax 1:1"),
-    ("__attribute__((a,, b)) int c;", "Syntax 1:1"),
-    ("__attribute__((a(])) int b;", "Syntax 1:1"),
+    ("__attribute__(a) int b;", "syntax 1:1"),
+    ("__attribute__((a,, b)) int c;", "syntax 1:1"),
+    ("__attribute__((a(])) int b;", "syntax 1:1"),
 ];
 
 /// C11 6.7.9
@@ -212,16 +212,16 @@ const INITIALISERS: &[(&str, &str)] = &[
         "int a[2][2] = {{1, 2}, {3,}, 4};",
         "Int a array2 array2 = {{1 2 } {3 } 4 }; ",
     ),
-    ("int a = {};", "Syntax 1:1"),
-    ("int a = {,};", "Syntax 1:1"),
-    ("int a = {1,,};", "Syntax 1:1"),
-    ("int a = {1 2};", "Syntax 1:1"),
-    ("int a = {1;", "Syntax 1:1"),
-    ("int a = ;", "Syntax 1:1"),
-    ("int a = 1, 2;", "Syntax 1:1"),
-    ("int a = 1,;", "Syntax 1:1"),
-    ("struct s a = {.b = 1};", "Syntax 1:1"),
-    ("int a[1] = {[0] = 1};", "Syntax 1:1"),
+    ("int a = {};", "syntax 1:1"),
+    ("int a = {,};", "syntax 1:1"),
+    ("int a = {1,,};", "syntax 1:1"),
+    ("int a = {1 2};", "syntax 1:1"),
+    ("int a = {1;", "syntax 1:1"),
+    ("int a = ;", "syntax 1:1"),
+    ("int a = 1, 2;", "syntax 1:1"),
+    ("int a = 1,;", "syntax 1:1"),
+    ("struct s a = {.b = 1};", "syntax 1:1"),
+    ("int a[1] = {[0] = 1};", "syntax 1:1"),
 ];
 
 #[test]
@@ -241,7 +241,7 @@ fn basic_types(rt: HostRuntime) -> Result<(), Fail> {
         assert_joined(&rt, alloc, &[words, " a;"], &[tree, " a; "])?;
     }
     for &words in NO_TYPES {
-        assert_joined(&rt, alloc, &[words, " a;"], &["Syntax 1:1"])?;
+        assert_joined(&rt, alloc, &[words, " a;"], &["syntax 1:1"])?;
     }
     Ok(())
 }

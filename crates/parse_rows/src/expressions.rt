@@ -62,7 +62,7 @@ fn first(
     }
 }
 
-/// The same where the names of types are those of these rows.
+/// The expression of a text, where the names of types are those of these rows.
 fn first_of_rows(
     alloc: Global,
     tokens: &[Token],

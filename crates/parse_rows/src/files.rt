@@ -23,7 +23,7 @@ const FILES: &[(&str, &str)] = &[
         "<stddef.h>\nsize_t a; ptrdiff_t b;",
         "header; size_t a; ptrdiff_t b; ",
     ),
-    ("int b; size_t a;", "Syntax 1:8"),
+    ("int b; size_t a;", "syntax 1:8"),
     (
         "typedef int T, *U;\nT a; U b; unsigned c;",
         "typedef Int T, U pointer1; T a; U b; Unsigned c; ",
@@ -41,19 +41,19 @@ const FILES: &[(&str, &str)] = &[
         "typedef Int T; Int f function(void) {T a; ..; T d pointer1; }; ",
     ),
     ("typedef int T; struct T a;", "typedef Int T; Struct T a; "),
-    ("typedef int T; T f(T T) { return T; }", "Syntax 1:16"),
-    ("typedef int T; int T;", "Syntax 1:16"),
-    ("typedef int T; unsigned T;", "Syntax 1:16"),
-    ("typedef int T; T long a;", "Syntax 1:16"),
-    ("int T; T a;", "Syntax 1:8"),
+    ("typedef int T; T f(T T) { return T; }", "syntax 1:16"),
+    ("typedef int T; int T;", "syntax 1:16"),
+    ("typedef int T; unsigned T;", "syntax 1:16"),
+    ("typedef int T; T long a;", "syntax 1:16"),
+    ("int T; T a;", "syntax 1:8"),
     // the first refusal, at the first token of its declaration
-    ("int x;\nint main(void) { return 0 }", "Syntax 2:1"),
-    ("int x;\n  int main(void) { return 0; }\n }", "Syntax 3:2"),
-    ("int x; ; int y;", "Syntax 1:8"),
-    ("int x; int", "Syntax 1:8"),
-    ("int f(a) int a; { }", "Syntax 1:1"),
-    ("int main(void) {\n    goto x;\n}", "LeftOutKeyword 2:5"),
-    ("int x\n  float y;", "LeftOutKeyword 2:3"),
+    ("int x;\nint main(void) { return 0 }", "syntax 2:1"),
+    ("int x;\n  int main(void) { return 0; }\n }", "syntax 3:2"),
+    ("int x; ; int y;", "syntax 1:8"),
+    ("int x; int", "syntax 1:8"),
+    ("int f(a) int a; { }", "syntax 1:1"),
+    ("int main(void) {\n    goto x;\n}", "left-out-keyword 2:5"),
+    ("int x\n  float y;", "left-out-keyword 2:3"),
 ];
 
 /// The keywords of C11 6.4.1 that the grammar leaves out.
@@ -85,7 +85,7 @@ fn trees_of_files(rt: HostRuntime) -> Result<(), Fail> {
 fn keywords_left_out(rt: HostRuntime) -> Result<(), Fail> {
     let alloc = rt.alloc();
     for &word in LEFT_OUT {
-        assert_joined(&rt, alloc, &["int a; ", word], &["LeftOutKeyword 1:8"])?;
+        assert_joined(&rt, alloc, &["int a; ", word], &["left-out-keyword 1:8"])?;
     }
     Ok(())
 }
@@ -99,15 +99,15 @@ const BRACKETS: &[(&str, u32, &str, &str)] = &[
         "; }",
         "Int main function(void) {return 0; }; ",
     ),
-    ("int main(void) { return ", 200, "; }", "LimitDepth 1:224"),
+    ("int main(void) { return ", 200, "; }", "limit-depth 1:224"),
     ("int a = ", 200, ";", "Int a = 0; "),
-    ("int a = ", 201, ";", "LimitDepth 1:209"),
+    ("int a = ", 201, ";", "limit-depth 1:209"),
     // a bracket that closes none takes none away
-    ("} int a = ", 200, ";", "Syntax 1:1"),
-    ("} int a = ", 201, ";", "LimitDepth 1:211"),
+    ("} int a = ", 200, ";", "syntax 1:1"),
+    ("} int a = ", 201, ";", "limit-depth 1:211"),
     // brackets come before the grammar, and keywords before both
-    ("int\nint a = ", 201, ";", "LimitDepth 2:209"),
-    ("int\nint a = ", 201, " goto;", "LeftOutKeyword 2:413"),
+    ("int\nint a = ", 201, ";", "limit-depth 2:209"),
+    ("int\nint a = ", 201, " goto;", "left-out-keyword 2:413"),
 ];
 
 /// `0` in so many brackets.
@@ -184,7 +184,7 @@ fn assert_too_high(
     end: &str,
 ) -> Result<(), NoMemory> {
     let text = repeated(alloc, start, middle, times, end)?;
-    assert_shown(rt, alloc, text.as_str(), "Syntax 1:1")
+    assert_shown(rt, alloc, text.as_str(), "syntax 1:1")
 }
 
 #[test]

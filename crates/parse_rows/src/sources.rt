@@ -57,7 +57,7 @@ fn file_text(alloc: Global, file: &FileTree) -> Result<String, NoMemory> {
 
 fn refusal_text(alloc: Global, refusal: Refusal) -> Result<String, NoMemory> {
     let Refusal { rule, place } = refusal;
-    Ok(format!(in alloc; "{rule:?} {}:{}", place.line, place.col)?)
+    Ok(format!(in alloc; "{} {}:{}", rule.name(), place.line, place.col)?)
 }
 
 /// The tree, or the rule and its place.
@@ -70,7 +70,7 @@ pub fn shown(alloc: Global, text: &str) -> Result<String, NoMemory> {
 }
 
 pub fn assert_same(rt: &impl Abort, got: &str, want: &str) {
-    assert_eq!(rt; got, want);
+    assert!(rt; got == want);
 }
 
 /// Asserts that this is the tree of the source, or its refusal.
@@ -85,7 +85,7 @@ pub fn assert_shown(
     Ok(())
 }
 
-/// The same, of each row of a table.
+/// Asserts of each row of a table that it has the tree or refusal of its source.
 pub fn assert_rows(rt: &impl Abort, alloc: Global, rows: &[(&str, &str)]) -> Result<(), NoMemory> {
     for &(source, tree) in rows {
         assert_shown(rt, alloc, source, tree)?;
@@ -93,7 +93,7 @@ pub fn assert_rows(rt: &impl Abort, alloc: Global, rows: &[(&str, &str)]) -> Res
     Ok(())
 }
 
-/// The same, of a tree in parts.
+/// Asserts that the parts together are the tree of the source, or its refusal.
 fn assert_parts(
     rt: &impl Abort,
     alloc: Global,
@@ -104,7 +104,7 @@ fn assert_parts(
     assert_shown(rt, alloc, source, tree.as_str())
 }
 
-/// The same, of a source and a tree in parts.
+/// Asserts that the parts of a tree together are the tree of a source in parts, or its refusal.
 pub fn assert_joined(
     rt: &impl Abort,
     alloc: Global,

@@ -94,7 +94,7 @@ fn trees_of_functions(rt: HostRuntime) -> Result<(), Fail> {
     for &(body, tree) in BODIES {
         let source = ["int f(void) ", body];
         if tree.is_empty() {
-            assert_joined(&rt, alloc, &source, &["Syntax 1:1"])?;
+            assert_joined(&rt, alloc, &source, &["syntax 1:1"])?;
         } else {
             assert_joined(&rt, alloc, &source, &["Int f function(void) ", tree, "; "])?;
         }

@@ -7,8 +7,8 @@ use Rattle.c_tree.specs.declared.statements.Stmt.{Stmt}
 use Rattle.parse_meaning.specs.declared.terminals.Keyword.TheVariants as w
 use Rattle.parse_meaning.specs.declared.terminals.Terminal.TheVariants as k
 use Rattle.parse_meaning.specs.Terminals.{Lexeme, at}
-use Rattle.parse_meaning.specs.Reading.{Read, ◌>>=◌, found, prepended, expression}
-use Rattle.parse_meaning.specs.ReadingStatements.{items, items_by, labelled, labelled_by, with_stmt, statement, cases}
+use Rattle.parse_reading.specs.Reading.{Read, ◌>>=◌, found, prepended, expression}
+use Rattle.parse_reading.specs.ReadingStatements.{items, items_by, labelled, labelled_by, with_stmt, statement, cases}
 use Rattle.parse_lists.specs.Ends.{body_end_at}
 use Rattle.parse_statements.specs.declared.statements.Beside.{Beside}
 use Rattle.parse_statements.specs.declared.statements.Beside.TheVariants as beside

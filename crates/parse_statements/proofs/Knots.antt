@@ -1,8 +1,8 @@
 -- The reading function of statements at a depth that code counts down.
 use Rattle.std.proofs.Common.{◌≡◌, ℕ, zero, suc, ◌-◌, ◌<◌, List, None, refl, ap, arith}
 use Rattle.parse_meaning.specs.Terminals.{Lexeme}
-use Rattle.parse_meaning.specs.Reading.{expression}
-use Rattle.parse_meaning.specs.ReadingStatements.{statement, statement_by}
+use Rattle.parse_reading.specs.Reading.{expression}
+use Rattle.parse_reading.specs.ReadingStatements.{statement, statement_by}
 use Rattle.parse_initialisers.specs.Readers.{locals}
 
 pub statement-zero : (depth : ℕ) (s : List Lexeme) → depth ≡ 0 → statement depth s ≡ None

@@ -6,8 +6,8 @@ use Rattle.c_tree.specs.declared.statements.Stmt.{Stmt}
 use Rattle.parse_meaning.specs.declared.terminals.Keyword.TheVariants as w
 use Rattle.parse_meaning.specs.declared.terminals.Terminal.TheVariants as k
 use Rattle.parse_meaning.specs.Terminals.{Lexeme, at}
-use Rattle.parse_meaning.specs.Reading.{Read, ◌>>=◌, begins_spec, expression, after_right_paren}
-use Rattle.parse_meaning.specs.ReadingStatements.{after_semicolon, after_left_brace, after_while, statement, declared_item, label, begins_label, items, labelled, cases, condition}
+use Rattle.parse_reading.specs.Reading.{Read, ◌>>=◌, begins_spec, expression, after_right_paren}
+use Rattle.parse_reading.specs.ReadingStatements.{after_semicolon, after_left_brace, after_while, statement, declared_item, label, begins_label, items, labelled, cases, condition}
 use Rattle.parse_statements.specs.declared.statements.Beside.{Beside}
 use Rattle.parse_statements.specs.declared.statements.Beside.TheVariants as beside
 use Rattle.parse_statements.specs.declared.optional.End.{End}

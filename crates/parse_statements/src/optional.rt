@@ -1,8 +1,9 @@
 //! Expressions that may be left out.
 
 ghost use Rattle.std.specs.Prelude.{◌≡◌, ◌<◌, ◌≤◌, IfOk};
-ghost use Rattle.parse_meaning.specs.Reading.{expression};
-ghost use Rattle.parse_meaning.specs.ReadingStatements as spec;
+ghost use Rattle.parse_reading.specs.Reading.{expression};
+ghost use Rattle.parse_reading.specs.ReadingStatements as spec;
+ghost use Rattle.parse_tokens.specs.Rooms.{depth_room};
 ghost use Rattle.parse_tokens.specs.Endings as endings;
 ghost use Rattle.parse_tokens.specs.Gives.{Gives};
 ghost use Rattle.parse_statements.specs.Lists.{after_end, taken};
@@ -14,6 +15,7 @@ use parse_meaning::Terminal;
 use parse_operators::EXPRESSION;
 use parse_tokens::{ParseFault, Tokens, WithHeight, before_right_paren, before_semicolon};
 use std::alloc::Global;
+use tree_drops::LetGo;
 
 /// What stands behind an expression that may be left out.
 #[derive(Clone, Copy)]
@@ -24,7 +26,7 @@ pub enum End {
 
 impl End {
     /// The part, if the token comes next.
-    fn behind<T: Drop>(
+    fn behind<T: LetGo>(
         self,
         tokens: &mut Tokens<'_>,
         part: WithHeight<T>,
@@ -53,14 +55,14 @@ impl End {
     }
 }
 
-#[tactic(auto, unfolding(parse_meaning::specs::ReadingStatements::ended))]
+#[tactic(auto, unfolding(parse_reading::specs::ReadingStatements::ended))]
 fn ended(
     alloc: Global,
     tokens: &mut Tokens<'_>,
     depth: usize,
     end: End,
 ) -> Result<WithHeight<Option<Expr>>, ParseFault>
-    requires { depth < 1000 }
+    requires { depth < depth_room }
     ensures reads { Gives (spec.ended (after_end end) (expression depth) tokens.old) result tokens.new }
     ensures low { IfOk result (λ x. x.height ≤ depth) }
 {
@@ -79,7 +81,7 @@ pub fn optional(
     depth: usize,
     end: End,
 ) -> Result<WithHeight<Option<Expr>>, ParseFault>
-    requires { depth < 1000 }
+    requires { depth < depth_room }
     ensures reads { Gives (spec.optional (after_end end) (expression depth) tokens.old) result tokens.new }
     ensures low { IfOk result (λ x. x.height ≤ depth) }
 {

@@ -1,8 +1,9 @@
 //! Statements without statements in them, labels, and the heads of statements (C11 6.8).
 
 ghost use Rattle.std.specs.Prelude.{◌≡◌, ◌<◌, ◌≤◌, ◌+◌, ◌*◌, ◌^◌, IfOk};
-ghost use Rattle.parse_meaning.specs.Reading.{expression};
-ghost use Rattle.parse_meaning.specs.ReadingStatements as spec;
+ghost use Rattle.parse_reading.specs.Reading.{expression};
+ghost use Rattle.parse_reading.specs.ReadingStatements as spec;
+ghost use Rattle.parse_tokens.specs.Rooms.{depth_room};
 ghost use Rattle.parse_tokens.specs.Gives.{Gives};
 ghost use Rattle.parse_statements.specs.Lists.{do_test_of};
 ghost use Rattle.parse_initialisers.specs.Readers.{Within, locals};
@@ -20,14 +21,14 @@ use parse_tokens::{
 use std::alloc::Global;
 
 /// `case 1:`, behind the word (C11 6.8.1).
-#[tactic(auto, unfolding(parse_meaning::specs::ReadingStatements::case_label))]
+#[tactic(auto, unfolding(parse_reading::specs::ReadingStatements::case_label))]
 fn case_label(
     alloc: Global,
     tokens: &mut Tokens<'_>,
     depth: usize,
     place: Place,
 ) -> Result<WithHeight<Stmt>, ParseFault>
-    requires { depth < 1000 }
+    requires { depth < depth_room }
     ensures reads { Gives (spec.case_label (expression depth) (locals depth) (spec.statement depth) place tokens.old) result tokens.new }
     ensures low { IfOk result (λ x. x.height ≤ depth + 1) }
 {
@@ -43,7 +44,7 @@ fn case_label(
 }
 
 /// `default:`, behind the word (C11 6.8.1).
-#[tactic(auto, unfolding(parse_meaning::specs::ReadingStatements::default_label))]
+#[tactic(auto, unfolding(parse_reading::specs::ReadingStatements::default_label))]
 fn default_label(
     tokens: &mut Tokens<'_>,
     depth: usize,
@@ -65,7 +66,7 @@ pub fn label(
     tokens: &mut Tokens<'_>,
     depth: usize,
 ) -> Result<WithHeight<Stmt>, ParseFault>
-    requires { depth < 1000 }
+    requires { depth < depth_room }
     ensures reads { Gives (spec.label (expression depth) (locals depth) (spec.statement depth) tokens.old) result tokens.new }
     ensures low { IfOk result (λ x. x.height ≤ depth + 1) }
 {
@@ -89,13 +90,13 @@ pub fn begins_label(tokens: &Tokens<'_>, depth: usize) -> bool
 }
 
 /// `int a = 1, *b;` among the items of a block.
-#[tactic(auto, unfolding(parse_meaning::specs::ReadingStatements::declared_item))]
+#[tactic(auto, unfolding(parse_reading::specs::ReadingStatements::declared_item))]
 pub fn declared_item(
     alloc: Global,
     tokens: &mut Tokens<'_>,
     depth: usize,
 ) -> Result<WithHeight<Stmt>, ParseFault>
-    requires { depth < 1000 }
+    requires { depth < depth_room }
     ensures reads { Gives (spec.declared_item (expression depth) (locals depth) (spec.statement depth) tokens.old) result tokens.new }
     ensures low { IfOk result (λ x. x.height ≤ 2 * depth + 1 + 2 ^ 63) }
 {
@@ -112,13 +113,13 @@ pub fn declared_item(
 }
 
 /// `a;` or `;` (C11 6.8.3).
-#[tactic(auto, unfolding(parse_meaning::specs::ReadingStatements::evaluation))]
+#[tactic(auto, unfolding(parse_reading::specs::ReadingStatements::evaluation))]
 pub fn evaluation(
     alloc: Global,
     tokens: &mut Tokens<'_>,
     depth: usize,
 ) -> Result<WithHeight<Stmt>, ParseFault>
-    requires { depth < 1000 }
+    requires { depth < depth_room }
     ensures reads { Gives (spec.evaluation (expression depth) (locals depth) (spec.statement depth) tokens.old) result tokens.new }
     ensures low { IfOk result (λ x. x.height ≤ depth + 1) }
 {
@@ -134,13 +135,13 @@ pub fn evaluation(
 }
 
 /// `(a)`, as the head of a statement.
-#[tactic(auto, unfolding(parse_meaning::specs::ReadingStatements::condition))]
+#[tactic(auto, unfolding(parse_reading::specs::ReadingStatements::condition))]
 pub fn condition(
     alloc: Global,
     tokens: &mut Tokens<'_>,
     depth: usize,
 ) -> Result<WithHeight<Expr>, ParseFault>
-    requires { depth < 1000 }
+    requires { depth < depth_room }
     ensures reads { Gives (spec.condition (expression depth) (locals depth) (spec.statement depth) tokens.old) result tokens.new }
     ensures low { IfOk result (λ x. x.height ≤ depth) }
 {
@@ -155,7 +156,7 @@ pub fn do_test(
     tokens: &mut Tokens<'_>,
     depth: usize,
 ) -> Result<WithHeight<Expr>, ParseFault>
-    requires { depth < 1000 }
+    requires { depth < depth_room }
     ensures reads { Gives (do_test_of depth tokens.old) result tokens.new }
     ensures low { IfOk result (λ x. x.height ≤ depth) }
 {
@@ -164,13 +165,13 @@ pub fn do_test(
 }
 
 /// A declaration, as the head of a `for`.
-#[tactic(auto, unfolding(parse_meaning::specs::ReadingStatements::head_local))]
+#[tactic(auto, unfolding(parse_reading::specs::ReadingStatements::head_local))]
 fn head_local(
     alloc: Global,
     tokens: &mut Tokens<'_>,
     depth: usize,
 ) -> Result<WithHeight<ForHead>, ParseFault>
-    requires { depth < 1000 }
+    requires { depth < depth_room }
     ensures reads { Gives (spec.head_local (expression depth) (locals depth) (spec.statement depth) tokens.old) result tokens.new }
     ensures low { Within depth result }
 {
@@ -185,13 +186,13 @@ fn head_local(
 }
 
 /// An expression or none with its semicolon, as the head of a `for`.
-#[tactic(auto, unfolding(parse_meaning::specs::ReadingStatements::head_expr))]
+#[tactic(auto, unfolding(parse_reading::specs::ReadingStatements::head_expr))]
 fn head_expr(
     alloc: Global,
     tokens: &mut Tokens<'_>,
     depth: usize,
 ) -> Result<WithHeight<ForHead>, ParseFault>
-    requires { depth < 1000 }
+    requires { depth < depth_room }
     ensures reads { Gives (spec.head_expr (expression depth) (locals depth) (spec.statement depth) tokens.old) result tokens.new }
     ensures low { Within depth result }
 {
@@ -208,7 +209,7 @@ pub fn for_head(
     tokens: &mut Tokens<'_>,
     depth: usize,
 ) -> Result<WithHeight<ForHead>, ParseFault>
-    requires { depth < 1000 }
+    requires { depth < depth_room }
     ensures reads { Gives (spec.for_head (expression depth) (locals depth) (spec.statement depth) tokens.old) result tokens.new }
     ensures low { Within depth result }
 {
@@ -220,7 +221,7 @@ pub fn for_head(
 }
 
 /// A statement of one word and a semicolon, behind the word (C11 6.8.6).
-#[tactic(auto, unfolding(parse_meaning::specs::ReadingStatements::jump))]
+#[tactic(auto, unfolding(parse_reading::specs::ReadingStatements::jump))]
 pub fn jump(
     tokens: &mut Tokens<'_>,
     depth: usize,
@@ -233,14 +234,14 @@ pub fn jump(
 }
 
 /// `return a;` or `return;`, behind the word (C11 6.8.6.4).
-#[tactic(auto, unfolding(parse_meaning::specs::ReadingStatements::returned))]
+#[tactic(auto, unfolding(parse_reading::specs::ReadingStatements::returned))]
 pub fn returned(
     alloc: Global,
     tokens: &mut Tokens<'_>,
     depth: usize,
     place: Place,
 ) -> Result<WithHeight<Stmt>, ParseFault>
-    requires { depth < 1000 }
+    requires { depth < depth_room }
     ensures reads { Gives (spec.returned (expression depth) (locals depth) (spec.statement depth) place tokens.old) result tokens.new }
     ensures low { IfOk result (λ x. x.height ≤ depth + 1) }
 {

@@ -4,8 +4,9 @@ ghost use Rattle.std.specs.Prelude.{◌≡◌, ◌<◌, ◌≤◌, ◌+◌, ◌*
 ghost use Rattle.c_tokens.specs.declared.tokens.Token.{Token};
 ghost use Rattle.parse_meaning.specs.declared.terminals.Terminal.TheVariants as k;
 ghost use Rattle.parse_meaning.specs.Terminals.{Lexeme, at};
-ghost use Rattle.parse_meaning.specs.Reading.{expression, prepended};
-ghost use Rattle.parse_meaning.specs.ReadingStatements as spec;
+ghost use Rattle.parse_reading.specs.Reading.{expression, prepended};
+ghost use Rattle.parse_reading.specs.ReadingStatements as spec;
+ghost use Rattle.parse_tokens.specs.Rooms.{depth_room};
 ghost use Rattle.parse_tokens.specs.Gives.{Gives};
 ghost use Rattle.parse_statements.specs.Lists.{item_of, stmts_of, begins_cases, braced_cases_of};
 ghost use Rattle.parse_initialisers.specs.Nests.{Nests};
@@ -17,12 +18,13 @@ use crate::simple_statements::{
 };
 use c_tokens::Punct;
 use c_tree::{Expr, Stmt};
-use fc_base::{Place, both};
+use fc_base::Place;
 use parse_lists::take_body_end;
 use parse_meaning::{Keyword, Terminal};
 use parse_tokens::{ParseFault, Tokens, WithHeight, before_semicolon};
 use sqlite_items::{Boxed, Items};
 use std::alloc::Global;
+use tree_drops::{IntoBox, StmtItems, both};
 
 /// What may stand between braces beside statements: declarations in a block, labels in a switch.
 #[derive(Clone, Copy)]
@@ -54,7 +56,7 @@ impl<F: Fn(Global, &mut Tokens<'_>, usize) -> Result<WithHeight<Stmt>, ParseFaul
         requires { Nests spec.statement self.now.depth (F.pre self.now.deep) (F.post self.now.deep) }
         ensures reads { Gives (spec.statement self.now.depth tokens.old) result tokens.new }
         ensures low { Within self.now.depth result }
-        ensures few { self.now.depth + 1 < 1000 }
+        ensures few { self.now.depth + 1 < depth_room }
     {
         (self.deep)(self.alloc, tokens, self.depth)
     }
@@ -67,7 +69,7 @@ impl<F: Fn(Global, &mut Tokens<'_>, usize) -> Result<WithHeight<Stmt>, ParseFaul
     {
         let WithHeight { tree, height } = self.sub(tokens)?;
         Ok(WithHeight {
-            tree: Boxed::new(self.alloc, tree)?,
+            tree: Stmt::boxed(self.alloc, tree)?,
             height,
         })
     }
@@ -95,7 +97,7 @@ impl<F: Fn(Global, &mut Tokens<'_>, usize) -> Result<WithHeight<Stmt>, ParseFaul
         &self,
         tokens: &mut Tokens<'_>,
         beside: Beside,
-        first: WithHeight<Items<Stmt>>,
+        first: WithHeight<StmtItems>,
         turns: usize,
     ) -> Result<WithHeight<Items<Stmt>>, ParseFault>
         requires nests { Nests spec.statement self.now.depth (F.pre self.now.deep) (F.post self.now.deep) }
@@ -110,7 +112,7 @@ impl<F: Fn(Global, &mut Tokens<'_>, usize) -> Result<WithHeight<Stmt>, ParseFaul
         for _turn in 0..turns {
             if take_body_end(tokens) {
                 return Ok(WithHeight {
-                    tree: trees,
+                    tree: trees.finish(),
                     height,
                 });
             }
@@ -120,7 +122,7 @@ impl<F: Fn(Global, &mut Tokens<'_>, usize) -> Result<WithHeight<Stmt>, ParseFaul
         }
         if take_body_end(tokens) {
             Ok(WithHeight {
-                tree: trees,
+                tree: trees.finish(),
                 height,
             })
         } else {
@@ -136,13 +138,13 @@ impl<F: Fn(Global, &mut Tokens<'_>, usize) -> Result<WithHeight<Stmt>, ParseFaul
     {
         let turns = tokens.left();
         let nothing = WithHeight {
-            tree: Items::new(self.alloc),
+            tree: StmtItems::new(self.alloc),
             height: 0,
         };
         self.braced(tokens, Beside::Declarations, nothing, turns)
     }
 
-    #[tactic(auto, unfolding(parse_meaning::specs::ReadingStatements::compound))]
+    #[tactic(auto, unfolding(parse_reading::specs::ReadingStatements::compound))]
     fn compound(
         &self,
         tokens: &mut Tokens<'_>,
@@ -173,13 +175,13 @@ impl<F: Fn(Global, &mut Tokens<'_>, usize) -> Result<WithHeight<Stmt>, ParseFaul
         }
         let turns = tokens.left() + 1;
         let nothing = WithHeight {
-            tree: Items::new(self.alloc),
+            tree: StmtItems::new(self.alloc),
             height: 0,
         };
         self.braced(tokens, Beside::Labels, nothing, turns)
     }
 
-    /// The same, with the brace that begins them.
+    /// The labels and statements of a switch, with the brace that begins them.
     fn braced_cases(&self, tokens: &mut Tokens<'_>) -> Result<WithHeight<Items<Stmt>>, ParseFault>
         requires { Nests spec.statement self.now.depth (F.pre self.now.deep) (F.post self.now.deep) }
         ensures reads { Gives (braced_cases_of self.now.depth tokens.old) result tokens.new }
@@ -230,7 +232,7 @@ impl<F: Fn(Global, &mut Tokens<'_>, usize) -> Result<WithHeight<Stmt>, ParseFaul
         }
     }
 
-    #[tactic(auto, unfolding(parse_meaning::specs::ReadingStatements::if_read))]
+    #[tactic(auto, unfolding(parse_reading::specs::ReadingStatements::if_read))]
     fn if_statement(
         &self,
         tokens: &mut Tokens<'_>,
@@ -247,7 +249,7 @@ impl<F: Fn(Global, &mut Tokens<'_>, usize) -> Result<WithHeight<Stmt>, ParseFaul
     }
 
     /// C11 6.8.4.2
-    #[tactic(auto, unfolding(parse_meaning::specs::ReadingStatements::switch_read))]
+    #[tactic(auto, unfolding(parse_reading::specs::ReadingStatements::switch_read))]
     fn switch_statement(
         &self,
         tokens: &mut Tokens<'_>,
@@ -271,7 +273,7 @@ impl<F: Fn(Global, &mut Tokens<'_>, usize) -> Result<WithHeight<Stmt>, ParseFaul
     }
 
     /// C11 6.8.5
-    #[tactic(auto, unfolding(parse_meaning::specs::ReadingStatements::while_read))]
+    #[tactic(auto, unfolding(parse_reading::specs::ReadingStatements::while_read))]
     fn while_statement(
         &self,
         tokens: &mut Tokens<'_>,
@@ -294,7 +296,7 @@ impl<F: Fn(Global, &mut Tokens<'_>, usize) -> Result<WithHeight<Stmt>, ParseFaul
         })
     }
 
-    #[tactic(auto, unfolding(parse_meaning::specs::ReadingStatements::do_read))]
+    #[tactic(auto, unfolding(parse_reading::specs::ReadingStatements::do_read))]
     fn do_statement(
         &self,
         tokens: &mut Tokens<'_>,
@@ -318,7 +320,7 @@ impl<F: Fn(Global, &mut Tokens<'_>, usize) -> Result<WithHeight<Stmt>, ParseFaul
         before_semicolon(tokens, found)
     }
 
-    #[tactic(auto, unfolding(parse_meaning::specs::ReadingStatements::for_read))]
+    #[tactic(auto, unfolding(parse_reading::specs::ReadingStatements::for_read))]
     fn for_statement(
         &self,
         tokens: &mut Tokens<'_>,
@@ -417,7 +419,7 @@ pub fn statement(
     tokens: &mut Tokens<'_>,
     depth: usize,
 ) -> Result<WithHeight<Stmt>, ParseFault>
-    requires { depth < 1000 }
+    requires { depth < depth_room }
     ensures reads { Gives (spec.statement depth tokens.old) result tokens.new }
     ensures low { Within depth result }
 {
@@ -438,7 +440,7 @@ pub fn block_items(
     tokens: &mut Tokens<'_>,
     depth: usize,
 ) -> Result<WithHeight<Items<Stmt>>, ParseFault>
-    requires { depth + 1 < 1000 }
+    requires { depth + 1 < depth_room }
     ensures reads { Gives (spec.items (expression depth) (locals depth) (spec.statement depth) (length tokens.old) tokens.old) result tokens.new }
     ensures low { IfOk result (λ x. x.height ≤ 2 * depth + 1 + 2 ^ 63) }
 {

@@ -1,7 +1,7 @@
 -- Steps of a reading that may fail, one behind another.
 use Rattle.std.proofs.Common.{◌≡◌, Option, Some, None, refl, ◌∙◌}
 use Rattle.std.specs.Prelude.{IfSome}
-use Rattle.parse_meaning.specs.Reading.{◌>>=◌}
+use Rattle.parse_reading.specs.Reading.{◌>>=◌}
 
 pub bind_each : {A B : Type 0} (o : Option A) (f g : A → Option B) → ((x : A) → f x ≡ g x) → (o >>= f) ≡ (o >>= g)
 bind_each None f g e = refl

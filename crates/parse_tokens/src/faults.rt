@@ -3,6 +3,7 @@
 use fc_base::NoMemory;
 use std::alloc::{AllocError, AllocFailed};
 use thiserror::Error;
+use tree_drops::LetGo;
 
 /// Why tokens gave no tree. No clause ties want of memory to its cause.
 #[derive(Clone, Copy, Debug, PartialEq, Eq, Error)]
@@ -51,4 +52,10 @@ impl<T: Drop> From<AllocFailed<T>> for ParseFault {
 pub struct WithHeight<T> {
     pub tree: T,
     pub height: usize,
+}
+
+impl<T: LetGo> LetGo for WithHeight<T> {
+    fn let_go(self) {
+        self.tree.let_go();
+    }
 }

@@ -1,7 +1,7 @@
 //! Kinds of terminals.
 
 ghost use Rattle.std.specs.Prelude.{◌≡◌};
-ghost use Rattle.parse_meaning.specs.Reading.{is_spec, is_spec_word};
+ghost use Rattle.parse_reading.specs.Reading.{is_spec, is_spec_word};
 ghost use Rattle.parse_meaning.specs.Terminals.{is_tag, is_word};
 
 use parse_meaning::{Keyword, Terminal};

@@ -6,8 +6,8 @@ ghost use Rattle.c_tokens.specs.declared.tokens.TokenKind.TheVariants as kind;
 ghost use Rattle.parse_meaning.specs.declared.terminals.Terminal.TheVariants as k;
 ghost use Rattle.c_tokens.specs.declared.puncts.Punct.TheVariants as p;
 ghost use Rattle.parse_meaning.specs.Terminals.{Lexeme, at, lexeme, terminal, place_of};
-ghost use Rattle.parse_meaning.specs.Reading.{begins_spec, after_left_paren, after_right_paren, after_left_bracket, after_right_bracket, after_comma, after_colon};
-ghost use Rattle.parse_meaning.specs.ReadingStatements.{after_semicolon, after_left_brace, after_while};
+ghost use Rattle.parse_reading.specs.Reading.{begins_spec, after_left_paren, after_right_paren, after_left_bracket, after_right_bracket, after_comma, after_colon};
+ghost use Rattle.parse_reading.specs.ReadingStatements.{after_semicolon, after_left_brace, after_while};
 ghost use Rattle.parse_tokens.specs.Gives.{Passes};
 
 use crate::faults::ParseFault;

@@ -8,7 +8,7 @@ use Rattle.c_tree.specs.declared.nodes.Declarator.{Declarator}
 use Rattle.c_tree.specs.declared.nodes.Declarator.TheVariants as d
 use Rattle.parse_meaning.specs.declared.terminals.Terminal.TheVariants as k
 use Rattle.parse_meaning.specs.Terminals.{Lexeme, at}
-use Rattle.parse_meaning.specs.Reading.{◌>>=◌, Read, found, after_left_bracket, bound, arrays_behind, arrays}
+use Rattle.parse_reading.specs.Reading.{◌>>=◌, Read, found, after_left_bracket, bound, arrays_behind, arrays}
 use Rattle.parse_tokens.proofs.Binds.{bind_bind, bind_each}
 use Rattle.parse_leaves.proofs.Misses.{nothing_found, found_nothing, some_same}
 use Rattle.parse_type_names.specs.Abstracts.{with_bound}

@@ -2,7 +2,7 @@
 use Rattle.std.proofs.Common.{◌≡◌, List, Result, Ok, Err, Option, Some, None, Bool, true, false, not, refl}
 use Rattle.std.specs.Prelude.{IfOk, IfErr}
 use Rattle.parse_meaning.specs.Terminals.{Lexeme}
-use Rattle.parse_meaning.specs.Reading.{Read, found}
+use Rattle.parse_reading.specs.Reading.{Read, found}
 use Rattle.parse_tokens.specs.declared.faults.ParseFault.{ParseFault}
 use Rattle.parse_tokens.specs.declared.faults.ParseFault.TheVariants as fault
 use Rattle.parse_tokens.specs.declared.faults.WithHeight.{WithHeight}

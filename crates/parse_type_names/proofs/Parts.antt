@@ -9,10 +9,10 @@ use Rattle.c_tree.specs.declared.nodes.PointerWord.TheVariants as pointer
 use Rattle.c_tree.specs.declared.nodes.Declarator.TheVariants as d
 use Rattle.parse_meaning.specs.declared.terminals.Terminal.TheVariants as k
 use Rattle.parse_meaning.specs.Terminals.{Lexeme, at, place_of}
-use Rattle.parse_meaning.specs.Reading as spec
-use Rattle.parse_meaning.specs.Reading.{◌>>=◌, Read, found}
+use Rattle.parse_reading.specs.Reading as spec
+use Rattle.parse_reading.specs.Reading.{◌>>=◌, Read, found}
 use Rattle.parse_meaning.proofs.Alone.{alike_length, words_move}
-use Rattle.parse_meaning.proofs.SoundParts.{pointer_words_sound}
+use Rattle.parse_reading.proofs.SoundParts.{pointer_words_sound}
 use Rattle.parse_tokens.specs.declared.faults.ParseFault.{ParseFault}
 use Rattle.parse_tokens.specs.declared.faults.WithHeight.{WithHeight}
 use Rattle.parse_tokens.specs.Gives.{Low}

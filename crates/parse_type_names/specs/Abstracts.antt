@@ -6,7 +6,7 @@ use Rattle.c_tree.specs.declared.nodes.PointerWord.{PointerWord}
 use Rattle.c_tree.specs.declared.nodes.Declarator.{Declarator}
 use Rattle.c_tree.specs.declared.nodes.Declarator.TheVariants as d
 use Rattle.parse_meaning.specs.Terminals.{Lexeme, place_of}
-use Rattle.parse_meaning.specs.Reading.{◌>>=◌, Read, found, after_right_paren, after_left_bracket, bound, bounded, abstract_direct, pointer_words, stars}
+use Rattle.parse_reading.specs.Reading.{◌>>=◌, Read, found, after_right_paren, after_left_bracket, bound, bounded, abstract_direct, pointer_words, stars}
 
 module _ (sub : ℕ → List Lexeme → Option (Read Expr)) where
   -- a declarator of a height with the bound behind a bracket, no higher than the limit

@@ -4,7 +4,8 @@ use Rattle.std.specs.declared.alloc.Global.{Global}
 use denote.Ref.{MutBor}
 use Rattle.c_tree.specs.declared.nodes.Expr.{Expr}
 use Rattle.parse_meaning.specs.Terminals.{Lexeme}
-use Rattle.parse_meaning.specs.Reading.{expression}
+use Rattle.parse_reading.specs.Reading.{expression}
+use Rattle.parse_tokens.specs.Rooms.{depth_room}
 use Rattle.parse_tokens.specs.declared.faults.ParseFault.{ParseFault}
 use Rattle.parse_tokens.specs.declared.faults.WithHeight.{WithHeight}
 use Rattle.parse_tokens.specs.Gives.{Gives}
@@ -16,4 +17,4 @@ pub record Nests (depth : ℕ) (pre : Global → MutBor (List Lexeme) → ℕ �
       → Gives (expression depth level old.now) r new.now
   pub low : (alloc : Global) (old new : MutBor (List Lexeme)) (level : ℕ) (r : Result (WithHeight Expr) ParseFault) → post alloc old depth level r new
       → IfOk r (λ x. x.height ≤ depth)
-  pub few : depth < 1000
+  pub few : depth < depth_room

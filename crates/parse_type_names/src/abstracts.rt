@@ -3,7 +3,8 @@
 ghost use Rattle.std.specs.Prelude.{◌≡◌, ◌≤◌, ◌<◌, ◌+◌, ◌^◌, suc, max, length, IfOk};
 ghost use Rattle.c_tree.specs.declared.nodes.Declarator.TheVariants as d;
 ghost use Rattle.parse_meaning.specs.Terminals.{place_of};
-ghost use Rattle.parse_meaning.specs.Reading as spec;
+ghost use Rattle.parse_reading.specs.Reading as spec;
+ghost use Rattle.parse_tokens.specs.Rooms.{height_room};
 ghost use Rattle.parse_tokens.specs.Gives.{Gives, Low};
 ghost use Rattle.parse_type_names.specs.Abstracts.{with_bound, group_bound, group_at, pointer_at};
 ghost use Rattle.parse_type_names.specs.Nests.{Nests};
@@ -11,13 +12,14 @@ ghost use Rattle.parse_type_names.specs.Nests.{Nests};
 use crate::grammar::Grammar;
 use c_tokens::Punct;
 use c_tree::{Declarator, Expr, PointerWord, TypeName};
-use fc_base::{Place, both};
+use fc_base::Place;
 use parse_leaves::{Context, boxed_behind, plain_specs, pointer_words, stars};
 use parse_meaning::Terminal;
 use parse_operators::CONDITIONAL;
 use parse_tokens::{ParseFault, Tokens, WithHeight, before_right_bracket, kept};
 use sqlite_items::{Boxed, Items};
 use std::alloc::{AllocError, Global};
+use tree_drops::{IntoBox, both};
 
 /// `a[b]`, where `a` began at `start`.
 fn array(
@@ -26,8 +28,8 @@ fn array(
     bound: WithHeight<Option<Boxed<Expr>>>,
     start: Place,
 ) -> Result<WithHeight<Declarator>, AllocError>
-    requires of { of.height < 2000 }
-    requires bound { bound.height < 2000 }
+    requires of { of.height < height_room }
+    requires bound { bound.height < height_room }
     ensures { IfOk result (λ x. x ≡ record { tree = d.Array of.tree bound.tree start; height = suc (max of.height bound.height) }) }
 {
     let height = of.height.max(bound.height) + 1;
@@ -65,7 +67,7 @@ fn pointed(
 }
 
 impl<F: Fn(Global, &mut Tokens<'_>, usize, u8) -> Result<WithHeight<Expr>, ParseFault>> Grammar<F> {
-    #[tactic(auto, unfolding(parse_meaning::specs::Reading::bound_some))]
+    #[tactic(auto, unfolding(parse_reading::specs::Reading::bound_some))]
     fn bound_some(
         &self,
         tokens: &mut Tokens<'_>,
@@ -77,7 +79,7 @@ impl<F: Fn(Global, &mut Tokens<'_>, usize, u8) -> Result<WithHeight<Expr>, Parse
         let bound = self.expression(tokens, CONDITIONAL)?;
         let bound = before_right_bracket(tokens, bound)?;
         Ok(WithHeight {
-            tree: Some(Boxed::new(self.alloc, bound.tree)?),
+            tree: Some(Expr::boxed(self.alloc, bound.tree)?),
             height: bound.height,
         })
     }
@@ -186,7 +188,8 @@ impl<F: Fn(Global, &mut Tokens<'_>, usize, u8) -> Result<WithHeight<Expr>, Parse
             tree: Declarator::Omitted { place },
             height: 1,
         };
-        let of = pointed(self.alloc, words, omitted, star)?;
+        let of = pointed(self.alloc, words, omitted, star);
+        let (bound, of) = both(bound, of)?;
         Ok(array(self.alloc, of, bound, start)?)
     }
 
@@ -245,7 +248,7 @@ impl<F: Fn(Global, &mut Tokens<'_>, usize, u8) -> Result<WithHeight<Expr>, Parse
     }
 
     /// A type name no higher than the parts.
-    #[tactic(auto, unfolding(parse_meaning::specs::Reading::type_name))]
+    #[tactic(auto, unfolding(parse_reading::specs::Reading::type_name))]
     pub fn type_name(&self, tokens: &mut Tokens<'_>) -> Result<WithHeight<TypeName>, ParseFault>
         requires { Nests self.now.depth (F.pre self.now.expr) (F.post self.now.expr) }
         ensures reads { Gives (spec.type_name self.now.depth (spec.expression self.now.depth) tokens.old) result tokens.new }
@@ -258,7 +261,7 @@ impl<F: Fn(Global, &mut Tokens<'_>, usize, u8) -> Result<WithHeight<Expr>, Parse
         let height = specs.height.max(declarator.height) + 1;
         let name = WithHeight {
             tree: TypeName {
-                specs: specs.tree.specs,
+                specs: specs.tree.specs.finish(),
                 declarator: declarator.tree,
                 place,
             },

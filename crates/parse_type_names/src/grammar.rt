@@ -2,7 +2,8 @@
 //! may be.
 
 ghost use Rattle.std.specs.Prelude.{◌≤◌, ◌<◌, IfOk};
-ghost use Rattle.parse_meaning.specs.Reading as spec;
+ghost use Rattle.parse_reading.specs.Reading as spec;
+ghost use Rattle.parse_tokens.specs.Rooms.{depth_room};
 ghost use Rattle.parse_tokens.specs.Gives.{Gives};
 ghost use Rattle.parse_type_names.specs.Nests.{Nests};
 
@@ -29,7 +30,7 @@ impl<F: Fn(Global, &mut Tokens<'_>, usize, u8) -> Result<WithHeight<Expr>, Parse
         requires { Nests self.now.depth (F.pre self.now.expr) (F.post self.now.expr) }
         ensures reads { Gives (spec.expression self.now.depth level tokens.old) result tokens.new }
         ensures low { IfOk result (λ x. x.height ≤ self.now.depth) }
-        ensures few { self.now.depth < 1000 }
+        ensures few { self.now.depth < depth_room }
     {
         (self.expr)(self.alloc, tokens, self.depth, level)
     }

@@ -117,7 +117,7 @@ const TYPES: &[TypeRow] = &[
 ];
 
 fn assert_layout(rt: &impl Abort, tags: &Tags, ctype: &CType, layout: Result<Layout, LayoutFault>) {
-    assert_eq!(rt; layout_of(tags, ctype), layout);
+    assert!(rt; layout_of(tags, ctype) == layout);
 }
 
 fn assert_types(
@@ -303,7 +303,7 @@ fn tagged(is_union: bool, tag: u32) -> CType {
 }
 
 fn assert_offset(rt: &impl Abort, tags: &Tags, tag: u32, member: usize, offset: Option<u64>) {
-    assert_eq!(rt; offset_of(tags, tag, member), offset);
+    assert!(rt; offset_of(tags, tag, member) == offset);
 }
 
 fn assert_offsets(rt: &impl Abort, tags: &Tags, tag: u32, offsets: &[Option<u64>]) {

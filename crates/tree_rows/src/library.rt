@@ -1,7 +1,9 @@
-//! The functions that the headers declare, with the modes of their checked forms.
+//! The functions that the headers declare, with the modes of their checked forms, and the types of C that they have.
 
-use c_layout::{HeaderNumber, lib_by_name, lib_mode};
-use fc_base::Mode;
+use c_layout::{HeaderNumber, Tags, layout_of, lib_by_name, lib_ctype, lib_mode};
+use c_library::LibType;
+use fc_base::{Mode, NoMemory};
+use std::alloc::Global;
 use std::process::Abort;
 
 const STRING_H: HeaderNumber = 0;
@@ -76,4 +78,35 @@ fn names_of_no_function(rt: HostRuntime) {
             assert!(rt; lib_by_name(name, header).is_none());
         }
     }
+}
+
+/// Each type of a parameter or a result with its size, where it has one.
+const TYPES: &[(LibType, Option<u64>)] = &[
+    (LibType::Void, None),
+    (LibType::Int, Some(4)),
+    (LibType::Long, Some(8)),
+    (LibType::Size, Some(8)),
+    (LibType::VoidPointer, Some(8)),
+    (LibType::CharPointer, Some(8)),
+];
+
+fn assert_type(
+    rt: &impl Abort,
+    alloc: Global,
+    of: LibType,
+    size: Option<u64>,
+) -> Result<(), NoMemory> {
+    let tags = Tags::new(alloc);
+    let ctype = lib_ctype(alloc, of)?;
+    let found = layout_of(&tags, &ctype).ok().map(|layout| layout.size);
+    assert!(rt; found == size);
+    Ok(())
+}
+
+#[test]
+fn types_of_functions(rt: HostRuntime) -> Result<(), NoMemory> {
+    for &(of, size) in TYPES {
+        assert_type(&rt, rt.alloc(), of, size)?;
+    }
+    Ok(())
 }

@@ -1,6 +1,6 @@
 use Rattle.std.proofs.Common.{◌≡◌, ◌-◌, ◌≤◌, length}
-use Rattle.parse_meaning.specs.Reading.{prepended, expression}
-use Rattle.parse_meaning.specs.ReadingDeclarators.{enumerators}
+use Rattle.parse_reading.specs.Reading.{prepended, expression}
+use Rattle.parse_reading.specs.ReadingDeclarators.{enumerators}
 use Rattle.parse_aggregates.proofs.enumerations.enumerators.Given as goal
 
 abbrev pub invariant-loop-turn : goal.invariant-loop-turn

@@ -1,5 +1,5 @@
 use Rattle.std.proofs.Common.{◌∙◌, rules, arith}
-use Rattle.parse_meaning.specs.Reading.{found}
+use Rattle.parse_reading.specs.Reading.{found}
 use Rattle.parse_declarators.specs.Named.{as_read}
 use Rattle.parse_tokens.proofs.Turns.{highest}
 use Rattle.parse_lists.proofs.Lists.{item_fails, end_fails, turn_ends, turn_goes, turns_over}
@@ -19,7 +19,7 @@ returns-in_err-take_declarators_end-clause-reads c =
 
 pub returns-then-branch-clause-reads : goal.returns-then-branch-clause-reads
 returns-then-branch-clause-reads c =
-    rw (c.in_ok-push.ensures.ok, c.max-height.ensures ∙ highest c.loop-turn.height c.in_ok-next.next.height)
+    rw (c.finish.ensures, c.in_ok-push.ensures.ok, c.max-height.ensures ∙ highest c.loop-turn.height c.in_ok-next.next.height)
     (turn_ends (declarators_are c.args.depth) c.loop-turn.trees c.loop-turn.height c.left-turns.result c.loop-turn._turn c.loop-turn.tokens c.loop-turn-test.true c.loop-turn.invariant.same
     (found c.in_ok-next.next.tree.tree c.in_ok-next.next.height c.declarator.new.tokens) (tree_found c.args.depth c.loop-turn.tokens (as_read c.in_ok-next.next c.declarator.new.tokens) c.in_ok-next.ensures.reads) c.in_ok-take_declarators_end.field-0 c.take_declarators_end.new.tokens c.in_ok-take_declarators_end.ensures.reads c.if-branch.true)
 

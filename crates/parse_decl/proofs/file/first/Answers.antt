@@ -1,5 +1,5 @@
 use Rattle.std.proofs.Common.{◌-◌, length, refl, ap, ◌∙◌}
-use Rattle.parse_meaning.specs.Reading.{found}
+use Rattle.parse_reading.specs.Reading.{found}
 use Rattle.parse_externals.specs.Externals.{external_of}
 use Rattle.parse_decl.proofs.FileSteps.{take_behind}
 use Rattle.parse_decl.proofs.file.first.Goals as goal

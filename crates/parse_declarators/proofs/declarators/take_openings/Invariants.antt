@@ -1,6 +1,6 @@
 use Rattle.std.proofs.Common.{ℕ, ◌≤◌, suc, length}
-use Rattle.parse_meaning.specs.Reading.{expression}
-use Rattle.parse_meaning.specs.ReadingDeclarators.{declarator, whole}
+use Rattle.parse_reading.specs.Reading.{expression}
+use Rattle.parse_reading.specs.ReadingDeclarators.{declarator, whole}
 use Rattle.parse_declarators.proofs.Openings.{Inside}
 use Rattle.parse_declarators.proofs.declarators.take_openings.Given as goal
 

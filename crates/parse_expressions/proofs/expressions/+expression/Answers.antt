@@ -1,5 +1,5 @@
 use Rattle.std.proofs.Common.{arith}
-use Rattle.parse_meaning.specs.Reading as spec
+use Rattle.parse_reading.specs.Reading as spec
 use Rattle.parse_tokens.specs.Gives.{Gives}
 use Rattle.parse_leaves.proofs.Lengths.{expression_shorter, shorter_given}
 use Rattle.parse_expressions.proofs.Knots.{expression-zero, expression_deeper}

@@ -1,5 +1,5 @@
 use Rattle.std.proofs.Common.{suc}
-use Rattle.parse_meaning.specs.Reading as spec
+use Rattle.parse_reading.specs.Reading as spec
 use Rattle.parse_leaves.proofs.Lengths.{abstract_kept, kept_given}
 use Rattle.parse_expressions.proofs.expressions.abstract_declarator.Goals as goal
 

@@ -1,11 +1,11 @@
 use Rattle.std.proofs.Common.{◌≡◌, ◌≢◌, None, rules}
 use Rattle.std.specs.Result.{IsErrAnd}
 use Rattle.parse_tokens.specs.declared.faults.ParseFault.TheVariants as fault
-use Rattle.parse_meaning.specs.Reading.{found}
+use Rattle.parse_reading.specs.Reading.{found}
 use Rattle.parse_leaves.specs.Counts.{specs_of}
 use Rattle.parse_initialisers.proofs.ReaderAnswers.{err_gives_as}
 use Rattle.parse_externals.proofs.Behind.{declaration_fails, declaration_body, declaration_rest}
-use Rattle.parse_meaning.specs.ReadingFile.{body, declaration}
+use Rattle.parse_reading.specs.ReadingFile.{body, declaration}
 use Rattle.parse_externals.proofs.externals.declaration.Goals as goal
 
 pub returns-then-takes_brace : goal.returns-then-takes_brace

@@ -13,7 +13,7 @@ returns c =
     let read = rw c.in_ok-specs.ensures.ok.1 at c.init_declarators-inits.ensures.reads in
     let names = rw c.in_ok-declaration.ensures.ok.1 at c.type_names-names.ensures.names in
     let within = c.within.ensures c.init_declarators-inits.new.tokens in
-    let given = rw (c.in_ok-declaration.ensures.ok.0, c.declaration_of-declaration.ensures, names, c.as_slice.ensures, c.in_ok-specs.ensures.ok.0) at within in
+    let given = rw (c.in_ok-declaration.ensures.ok.0, c.declaration_of-declaration.ensures, c.finish.ensures, names, c.as_slice.ensures, c.in_ok-specs.ensures.ok.0) at within in
     rw (declared_read _ _ _ _ _ _ _ _ _ read) given
 
 pub returns-in_err-specs : goal.returns-in_err-specs

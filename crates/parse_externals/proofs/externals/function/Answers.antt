@@ -1,8 +1,8 @@
 use Rattle.std.proofs.Common.{◌≡◌, ◌≢◌, None, rules}
 use Rattle.std.specs.Result.{IsErrAnd}
 use Rattle.parse_tokens.specs.declared.faults.ParseFault.TheVariants as fault
-use Rattle.parse_meaning.specs.Reading.{found}
-use Rattle.parse_meaning.specs.ReadingFile.{body}
+use Rattle.parse_reading.specs.Reading.{found}
+use Rattle.parse_reading.specs.ReadingFile.{body}
 use Rattle.parse_leaves.specs.Counts.{specs_of}
 use Rattle.parse_declarators.specs.Named.{named_of}
 use Rattle.parse_initialisers.proofs.ReaderAnswers.{err_gives_as}

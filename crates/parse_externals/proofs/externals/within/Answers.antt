@@ -1,7 +1,7 @@
 use Rattle.std.proofs.Common.{◌≡◌, ℕ, nat_le, List, Some, None, refl, arith}
 use Rattle.std.specs.Prelude.{if◌then◌else◌}
 use Rattle.parse_meaning.specs.Terminals.{Lexeme}
-use Rattle.parse_meaning.specs.Reading.{bounded, found}
+use Rattle.parse_reading.specs.Reading.{bounded, found}
 use Rattle.parse_externals.specs.Externals.{external_of}
 use Rattle.parse_initialisers.proofs.ReaderAnswers.{kept_gives_as}
 use Rattle.parse_externals.proofs.externals.within.Goals as goal

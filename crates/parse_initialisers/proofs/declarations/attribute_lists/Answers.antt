@@ -1,6 +1,6 @@
 use Rattle.std.proofs.Common.{◌≡◌, ◌≢◌, ◌∙◌, None, length, rules}
 use Rattle.parse_tokens.specs.declared.faults.ParseFault.TheVariants as fault
-use Rattle.parse_meaning.specs.ReadingStatements.{attribute_lists}
+use Rattle.parse_reading.specs.ReadingStatements.{attribute_lists}
 use Rattle.parse_tokens.proofs.Turns.{one_more, no_more}
 use Rattle.parse_leaves.proofs.AttributeSteps.{before}
 use Rattle.parse_initialisers.proofs.Attributes.{lists_end, lists_fail, lists_go, lists_none}

@@ -1,5 +1,5 @@
 use Rattle.std.proofs.Common.{◌≡◌, ◌-◌, length}
-use Rattle.parse_meaning.specs.ReadingStatements.{attribute_lists}
+use Rattle.parse_reading.specs.ReadingStatements.{attribute_lists}
 use Rattle.parse_leaves.proofs.AttributeSteps.{before}
 use Rattle.parse_initialisers.proofs.declarations.attribute_lists.Given as goal
 

@@ -1,8 +1,8 @@
 use Rattle.std.proofs.Common.{◌≡◌, ◌≢◌, None, rules}
 use Rattle.std.specs.Result.{IsErrAnd}
 use Rattle.parse_tokens.specs.declared.faults.ParseFault.TheVariants as fault
-use Rattle.parse_meaning.specs.ReadingDeclarators.{declarator}
-use Rattle.parse_meaning.specs.ReadingStatements.{initialiser}
+use Rattle.parse_reading.specs.ReadingDeclarators.{declarator}
+use Rattle.parse_reading.specs.ReadingStatements.{initialiser}
 use Rattle.parse_declarators.specs.Named.{named_of}
 use Rattle.parse_initialisers.specs.Readers.{init_declarator_from}
 use Rattle.parse_initialisers.proofs.ReaderAnswers.{err_gives_as}

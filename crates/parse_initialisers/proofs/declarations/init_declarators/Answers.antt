@@ -2,8 +2,8 @@ use Rattle.std.proofs.Common.{◌≡◌, ◌≢◌, ◌∙◌, None, map, rules,
 use Rattle.std.specs.Result.{IsErrAnd}
 use Rattle.std.proofs.lemmas.List.{map-append}
 use Rattle.parse_tokens.specs.declared.faults.ParseFault.TheVariants as fault
-use Rattle.parse_meaning.specs.ReadingDeclarators.{declarator}
-use Rattle.parse_meaning.specs.ReadingStatements.{initialiser}
+use Rattle.parse_reading.specs.ReadingDeclarators.{declarator}
+use Rattle.parse_reading.specs.ReadingStatements.{initialiser}
 use Rattle.parse_declarators.specs.Named.{named_of}
 use Rattle.parse_initialisers.specs.Declarations.{declared_of}
 use Rattle.parse_initialisers.specs.Readers.{init_declarators_from}

@@ -1,6 +1,6 @@
 use Rattle.std.proofs.Common.{◌≡◌, ◌+◌, ◌*◌, ◌^◌, ◌-◌, ◌≤◌, map}
-use Rattle.parse_meaning.specs.ReadingDeclarators.{declarator}
-use Rattle.parse_meaning.specs.ReadingStatements.{initialiser}
+use Rattle.parse_reading.specs.ReadingDeclarators.{declarator}
+use Rattle.parse_reading.specs.ReadingStatements.{initialiser}
 use Rattle.parse_declarators.specs.Named.{named_of}
 use Rattle.parse_initialisers.specs.Declarations.{declared_of}
 use Rattle.parse_initialisers.specs.Readers.{init_declarators_from}

@@ -1,4 +1,4 @@
-use Rattle.parse_meaning.specs.Reading as spec
+use Rattle.parse_reading.specs.Reading as spec
 use Rattle.parse_tokens.specs.Gives.{GivesPart}
 use Rattle.parse_leaves.proofs.Lengths.{attribute_list_shorter, part_given}
 use Rattle.parse_leaves.proofs.attributes.attribute_list.Goals as goal

@@ -1,5 +1,5 @@
 use Rattle.std.proofs.Common.{◌≡◌, ◌∙◌, None, refl, rules}
-use Rattle.parse_meaning.specs.Reading as spec
+use Rattle.parse_reading.specs.Reading as spec
 use Rattle.parse_tokens.proofs.Turns.{one_more, no_more}
 use Rattle.parse_leaves.proofs.AttributeSteps.{before, attributes_fail, attributes_go, attributes_open, attributes_half, attributes_end, attributes_over}
 use Rattle.parse_leaves.proofs.attributes.attributes.Goals as goal

@@ -1,5 +1,5 @@
 use Rattle.std.proofs.Common.{◌≡◌, ◌-◌}
-use Rattle.parse_meaning.specs.Reading as spec
+use Rattle.parse_reading.specs.Reading as spec
 use Rattle.parse_leaves.proofs.AttributeSteps.{before}
 use Rattle.parse_leaves.proofs.attributes.attributes.Given as goal
 

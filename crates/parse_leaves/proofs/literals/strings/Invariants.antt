@@ -1,5 +1,5 @@
 use Rattle.std.proofs.Common.{◌≡◌, length}
-use Rattle.parse_meaning.specs.Reading as spec
+use Rattle.parse_reading.specs.Reading as spec
 use Rattle.parse_leaves.specs.Runs.{joined, strings_behind}
 use Rattle.parse_leaves.proofs.literals.strings.Given as goal
 

@@ -1,5 +1,5 @@
 use Rattle.std.proofs.Common.{◌≡◌, ◌∙◌, ℕ, None, sym, rules, arith}
-use Rattle.parse_meaning.specs.Reading as spec
+use Rattle.parse_reading.specs.Reading as spec
 use Rattle.parse_tokens.proofs.Turns.{one_more, no_more, highest}
 use Rattle.parse_leaves.specs.Counts.{tally_of}
 use Rattle.parse_leaves.proofs.SpecSteps.{behind_specs, specs_fail, specs_end, specs_go, specs_over, behind_same}

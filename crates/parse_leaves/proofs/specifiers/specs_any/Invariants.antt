@@ -1,5 +1,5 @@
 use Rattle.std.proofs.Common.{◌≡◌, ◌+◌, ◌-◌, ◌≤◌, length}
-use Rattle.parse_meaning.specs.Reading as spec
+use Rattle.parse_reading.specs.Reading as spec
 use Rattle.parse_leaves.specs.Counts.{tally_of, total}
 use Rattle.parse_leaves.proofs.SpecSteps.{behind_specs}
 use Rattle.parse_leaves.proofs.specifiers.specs_any.Given as goal

@@ -1,5 +1,5 @@
 use Rattle.std.proofs.Common.{◌≡◌, length}
-use Rattle.parse_meaning.specs.Reading.{stars}
+use Rattle.parse_reading.specs.Reading.{stars}
 use Rattle.parse_lists.proofs.lookahead.pass_stars.Given as goal
 
 abbrev pub invariant-loop-tokens : goal.invariant-loop-tokens

@@ -1,8 +1,8 @@
 use Rattle.std.proofs.Common.{◌≡◌, ℕ, Option, Some, None, List, Bool, true, false, ap}
 use Rattle.c_tree.specs.declared.nodes.Expr.{Expr}
 use Rattle.parse_meaning.specs.Terminals.{Lexeme}
-use Rattle.parse_meaning.specs.Reading.{Read}
-use Rattle.parse_meaning.specs.ReadingStatements.{ended, optional_by}
+use Rattle.parse_reading.specs.Reading.{Read}
+use Rattle.parse_reading.specs.ReadingStatements.{ended, optional_by}
 use Rattle.parse_statements.specs.Lists.{taken}
 use Rattle.parse_statements.proofs.optional.optional.Goals as goal
 

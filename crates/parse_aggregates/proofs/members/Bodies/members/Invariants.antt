@@ -1,6 +1,6 @@
 use Rattle.std.proofs.Common.{◌≡◌, ◌+◌, ◌-◌, ◌≤◌, length}
-use Rattle.parse_meaning.specs.Reading.{prepended}
-use Rattle.parse_meaning.specs.ReadingDeclarators.{declarator, members, outer_spec}
+use Rattle.parse_reading.specs.Reading.{prepended}
+use Rattle.parse_reading.specs.ReadingDeclarators.{declarator, members, outer_spec}
 use Rattle.parse_aggregates.proofs.members.Bodies.members.Given as goal
 
 abbrev pub invariant-loop-turn : goal.invariant-loop-turn

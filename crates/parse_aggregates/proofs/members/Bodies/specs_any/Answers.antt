@@ -1,6 +1,6 @@
 use Rattle.std.proofs.Common.{◌+◌, ◌-◌, max, [], ◌∷◌, ◌++◌, ◌∙◌, ap, sym, rules, arith}
-use Rattle.parse_meaning.specs.Reading.{found, specs_any}
-use Rattle.parse_meaning.specs.ReadingDeclarators.{outer_spec}
+use Rattle.parse_reading.specs.Reading.{found, specs_any}
+use Rattle.parse_reading.specs.ReadingDeclarators.{outer_spec}
 use Rattle.parse_leaves.specs.Counts.{tally_of}
 use Rattle.parse_leaves.proofs.SpecSteps.{behind_specs, specs_fail, specs_end, specs_go, specs_over}
 use Rattle.parse_tokens.proofs.Turns.{highest, one_more, no_more}

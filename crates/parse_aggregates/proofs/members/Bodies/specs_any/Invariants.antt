@@ -1,6 +1,6 @@
 use Rattle.std.proofs.Common.{◌≡◌, ◌+◌, ◌-◌, ◌≤◌, length}
-use Rattle.parse_meaning.specs.Reading as spec
-use Rattle.parse_meaning.specs.ReadingDeclarators.{outer_spec}
+use Rattle.parse_reading.specs.Reading as spec
+use Rattle.parse_reading.specs.ReadingDeclarators.{outer_spec}
 use Rattle.parse_leaves.specs.Counts.{tally_of, total}
 use Rattle.parse_leaves.proofs.SpecSteps.{behind_specs}
 use Rattle.parse_aggregates.proofs.members.Bodies.specs_any.Given as goal

@@ -1,6 +1,6 @@
 use Rattle.std.proofs.Common.{◌≡◌, ◌∙◌, ◌+◌, ◌≤◌, ◌<◌, suc, max, Some, length, [], sym, ap, rules, arith}
-use Rattle.parse_meaning.specs.Reading.{expression}
-use Rattle.parse_meaning.specs.ReadingDeclarators.{declarator}
+use Rattle.parse_reading.specs.Reading.{expression}
+use Rattle.parse_reading.specs.ReadingDeclarators.{declarator}
 use Rattle.parse_declarators.specs.Named.{as_read}
 use Rattle.parse_declarators.specs.Suffixes.{in_parens, around}
 use Rattle.parse_tokens.proofs.Binds.{none_along}

@@ -1,5 +1,5 @@
 use Rattle.std.proofs.Common.{◌≡◌, suc, Some, subst}
-use Rattle.parse_meaning.specs.Reading.{bounded, found, expression}
+use Rattle.parse_reading.specs.Reading.{bounded, found, expression}
 use Rattle.parse_declarators.specs.Named.{GivesNamed}
 use Rattle.parse_declarators.specs.Suffixes.{bracketed}
 use Rattle.parse_declarators.proofs.params.Declarators.array.Goals as goal

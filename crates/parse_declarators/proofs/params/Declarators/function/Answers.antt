@@ -1,6 +1,6 @@
 use Rattle.std.proofs.Common.{◌≡◌, ◌+◌, ◌≤◌, ◌<◌, suc, max, Some, length, ap, ◌∙◌, subst, arith}
-use Rattle.parse_meaning.specs.Reading.{bounded, found, expression}
-use Rattle.parse_meaning.specs.ReadingDeclarators.{declarator}
+use Rattle.parse_reading.specs.Reading.{bounded, found, expression}
+use Rattle.parse_reading.specs.ReadingDeclarators.{declarator}
 use Rattle.parse_declarators.specs.Named.{GivesNamed}
 use Rattle.parse_declarators.specs.Suffixes.{params_at}
 use Rattle.parse_declarators.proofs.Lengths.{low_known}

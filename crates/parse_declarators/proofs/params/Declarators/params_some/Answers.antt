@@ -1,5 +1,5 @@
 use Rattle.std.proofs.Common.{◌∙◌, rules, arith}
-use Rattle.parse_meaning.specs.Reading.{found}
+use Rattle.parse_reading.specs.Reading.{found}
 use Rattle.parse_tokens.proofs.Turns.{highest}
 use Rattle.parse_lists.proofs.Lists.{item_fails, end_fails, turn_ends, turn_goes, turns_over}
 use Rattle.parse_declarators.proofs.Items.{params_are}
@@ -18,7 +18,7 @@ returns-in_err-take_params_end-clause-reads g c =
 
 pub returns-then-branch-clause-reads : goal.returns-then-branch-clause-reads
 returns-then-branch-clause-reads g c =
-    rw (c.in_ok-push.ensures.ok, c.max-height.ensures ∙ highest c.loop-turn.height c.in_ok-param.param.height)
+    rw (c.finish.ensures, c.in_ok-push.ensures.ok, c.max-height.ensures ∙ highest c.loop-turn.height c.in_ok-param.param.height)
     (turn_ends (params_are c.args.self.now.depth) c.loop-turn.trees c.loop-turn.height c.left-turns.result c.loop-turn._turn c.loop-turn.tokens c.loop-turn-test.true c.loop-turn.invariant.same
     (found c.in_ok-param.param.tree c.in_ok-param.param.height c.param.new.tokens) c.in_ok-param.ensures.reads c.in_ok-take_params_end.field-0 c.take_params_end.new.tokens c.in_ok-take_params_end.ensures.reads c.if-branch.true)
 

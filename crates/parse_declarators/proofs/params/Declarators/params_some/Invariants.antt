@@ -1,6 +1,6 @@
 use Rattle.std.proofs.Common.{◌≡◌, suc, ◌+◌, ◌-◌, ◌≤◌, length}
-use Rattle.parse_meaning.specs.Reading.{prepended, expression}
-use Rattle.parse_meaning.specs.ReadingDeclarators.{params_some, declarator}
+use Rattle.parse_reading.specs.Reading.{prepended, expression}
+use Rattle.parse_reading.specs.ReadingDeclarators.{params_some, declarator}
 use Rattle.parse_declarators.proofs.params.Declarators.params_some.Given as goal
 
 abbrev pub invariant-loop-turn : goal.invariant-loop-turn

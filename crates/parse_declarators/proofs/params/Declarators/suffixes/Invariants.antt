@@ -1,6 +1,6 @@
 use Rattle.std.proofs.Common.{◌≡◌, suc, ◌+◌, ◌≤◌, max, length}
-use Rattle.parse_meaning.specs.Reading.{expression}
-use Rattle.parse_meaning.specs.ReadingDeclarators.{suffixes, declarator}
+use Rattle.parse_reading.specs.Reading.{expression}
+use Rattle.parse_reading.specs.ReadingDeclarators.{suffixes, declarator}
 use Rattle.parse_declarators.specs.Named.{as_read}
 use Rattle.parse_declarators.proofs.params.Declarators.suffixes.Given as goal
 

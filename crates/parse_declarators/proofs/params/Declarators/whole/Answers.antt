@@ -1,7 +1,7 @@
 use Rattle.std.proofs.Common.{◌≡◌, ◌+◌, ◌≤◌, ◌<◌, suc, max, Some, length, rules, arith}
 use Rattle.std.proofs.lemmas.Result.{IfOk-weaker}
-use Rattle.parse_meaning.specs.Reading.{expression}
-use Rattle.parse_meaning.specs.ReadingDeclarators.{declarator}
+use Rattle.parse_reading.specs.Reading.{expression}
+use Rattle.parse_reading.specs.ReadingDeclarators.{declarator}
 use Rattle.parse_declarators.specs.Named.{as_read}
 use Rattle.parse_declarators.specs.Suffixes.{closed}
 use Rattle.parse_declarators.proofs.Lengths.{low_behind}

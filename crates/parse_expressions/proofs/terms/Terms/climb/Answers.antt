@@ -1,6 +1,6 @@
 use Rattle.std.proofs.Common.{◌≡◌, ◌∙◌, ◌+◌, ℕ, None, nat_lt, rules, arith}
 use Rattle.std.proofs.lemmas.Result.{err_from_is_err_and}
-use Rattle.parse_meaning.specs.Reading as spec
+use Rattle.parse_reading.specs.Reading as spec
 use Rattle.parse_tokens.proofs.Turns.{one_more}
 use Rattle.parse_operations.specs.LeftOperands.{as_left_operand}
 use Rattle.parse_type_names.proofs.Keeping.{kept_gives}

@@ -1,5 +1,5 @@
 use Rattle.std.proofs.Common.{◌≡◌, ◌∙◌, ℕ, None, refl, rules, arith}
-use Rattle.parse_meaning.specs.Reading as spec
+use Rattle.parse_reading.specs.Reading as spec
 use Rattle.parse_tokens.proofs.Turns.{one_more, no_more, highest}
 use Rattle.parse_expressions.proofs.Lists.{exprs_fail, exprs_end, exprs_go, exprs_over}
 use Rattle.parse_expressions.proofs.terms.Terms.exprs.Goals as goal
@@ -20,7 +20,7 @@ returns-then-not-take_comma-clause-reads g c =
     let e = one_more read c.args.turns c.loop-turn._turn c.loop-turn-test.true c.loop-turn.invariant.1 in
     let other = c.if-not-take_comma.ensures.other refl in
     let higher = c.max-height.ensures ∙ highest c.loop-turn.height c.in_ok-one.one.height in
-    rw (c.in_ok-push.ensures.ok, higher, other.1)
+    rw (c.finish.ensures, c.in_ok-push.ensures.ok, higher, other.1)
     (e ∙ exprs_end n (spec.expression n) c.loop-turn.trees c.loop-turn.height _ c.loop-turn.tokens c.expression.new.tokens _ _ c.in_ok-one.ensures.reads other.0)
 
 pub loop-turn-preserved : goal.loop-turn-preserved

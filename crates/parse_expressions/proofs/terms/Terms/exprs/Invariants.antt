@@ -1,5 +1,5 @@
 use Rattle.std.proofs.Common.{◌≡◌, ◌-◌, ◌≤◌}
-use Rattle.parse_meaning.specs.Reading as spec
+use Rattle.parse_reading.specs.Reading as spec
 use Rattle.parse_expressions.proofs.terms.Terms.exprs.Given as goal
 
 abbrev pub invariant-loop-turn : goal.invariant-loop-turn

@@ -1,5 +1,5 @@
 use Rattle.std.proofs.Common.{Option, sym, subst}
-use Rattle.parse_meaning.specs.Reading as spec
+use Rattle.parse_reading.specs.Reading as spec
 use Rattle.parse_operations.specs.LeftOperands.{GivesLeftOperand}
 use Rattle.parse_expressions.proofs.Parts.{next_parts}
 use Rattle.parse_expressions.proofs.terms.Terms.next.Goals as goal

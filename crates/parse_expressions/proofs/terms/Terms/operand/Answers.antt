@@ -1,5 +1,5 @@
 use Rattle.std.proofs.Common.{Option, sym, subst}
-use Rattle.parse_meaning.specs.Reading as spec
+use Rattle.parse_reading.specs.Reading as spec
 use Rattle.parse_operations.specs.LeftOperands.{GivesLeftOperand}
 use Rattle.parse_expressions.proofs.Parts.{prefix_sizeof, prefix_size_call, prefix_type}
 use Rattle.parse_expressions.proofs.terms.Terms.operand.Goals as goal

@@ -1,5 +1,5 @@
 use Rattle.std.proofs.Common.{◌≡◌, ◌∙◌, None, Some, refl, ap, rules}
-use Rattle.parse_meaning.specs.Reading as spec
+use Rattle.parse_reading.specs.Reading as spec
 use Rattle.parse_operations.specs.LeftOperands.{as_left_operand}
 use Rattle.parse_expressions.proofs.Groups.{within_groups, groups_fail, group_opens, group_closes}
 use Rattle.parse_expressions.proofs.terms.Terms.prefix.Goals as goal

@@ -1,5 +1,5 @@
 use Rattle.std.proofs.Common.{◌≡◌, ◌+◌, ◌≤◌, length, vec_len, Some}
-use Rattle.parse_meaning.specs.Reading as spec
+use Rattle.parse_reading.specs.Reading as spec
 use Rattle.parse_operations.specs.LeftOperands.{as_left_operand}
 use Rattle.parse_expressions.proofs.Groups.{within_groups}
 use Rattle.parse_expressions.proofs.terms.Terms.prefix.Given as goal

@@ -1,5 +1,5 @@
 use Rattle.std.proofs.Common.{◌∙◌, rules, arith}
-use Rattle.parse_meaning.specs.ReadingStatements.{initialiser}
+use Rattle.parse_reading.specs.ReadingStatements.{initialiser}
 use Rattle.parse_tokens.proofs.Turns.{highest}
 use Rattle.parse_lists.proofs.Lists.{item_fails, end_fails, turn_ends, turn_goes, turns_over}
 use Rattle.parse_initialisers.proofs.Lists.{inits_are}
@@ -17,7 +17,7 @@ returns-in_err-take_enumerators_end-clause-reads g c =
 
 pub returns-then-branch-clause-reads : goal.returns-then-branch-clause-reads
 returns-then-branch-clause-reads g c =
-    rw (c.in_ok-push.ensures.ok, c.max-height.ensures ∙ highest c.loop-turn.height c.in_ok-next.next.height)
+    rw (c.finish.ensures, c.in_ok-push.ensures.ok, c.max-height.ensures ∙ highest c.loop-turn.height c.in_ok-next.next.height)
     (turn_ends (inits_are (initialiser c.args.self.now.depth)) c.loop-turn.trees c.loop-turn.height c.left-turn-end.result c.loop-turn._turn c.loop-turn.tokens c.loop-turn-test.true c.loop-turn.invariant.reads _ c.in_ok-next.ensures.reads _ _ c.in_ok-take_enumerators_end.ensures.reads c.if-branch.true)
 
 pub loop-turn-preserved : goal.loop-turn-preserved

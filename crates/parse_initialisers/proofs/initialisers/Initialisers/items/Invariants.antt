@@ -1,6 +1,6 @@
 use Rattle.std.proofs.Common.{◌≡◌, ◌+◌, ◌*◌, ◌^◌, ◌-◌, ◌≤◌, length}
-use Rattle.parse_meaning.specs.Reading.{prepended}
-use Rattle.parse_meaning.specs.ReadingStatements.{initialiser, inits}
+use Rattle.parse_reading.specs.Reading.{prepended}
+use Rattle.parse_reading.specs.ReadingStatements.{initialiser, inits}
 use Rattle.parse_initialisers.proofs.initialisers.Initialisers.items.Given as goal
 
 abbrev pub invariant-loop-turn : goal.invariant-loop-turn

@@ -1,6 +1,6 @@
 use Rattle.std.proofs.Common.{◌≡◌, ◌≢◌, ◌∙◌, None, rules, arith}
 use Rattle.std.specs.Result.{IsErrAnd}
-use Rattle.parse_meaning.specs.Reading.{prepended}
+use Rattle.parse_reading.specs.Reading.{prepended}
 use Rattle.parse_tokens.specs.declared.faults.ParseFault.TheVariants as fault
 use Rattle.parse_statements.specs.Lists.{stmts_of}
 use Rattle.parse_tokens.proofs.Turns.{one_more, no_more}
@@ -10,7 +10,7 @@ use Rattle.parse_statements.proofs.statements.Statements.braced.Goals as goal
 pub returns-then-take_body_end-clause-reads : goal.returns-then-take_body_end-clause-reads
 returns-then-take_body_end-clause-reads g c =
     let e = one_more (λ n. prepended c.loop-turn.trees c.loop-turn.height (stmts_of c.args.self.now.depth c.args.beside n c.loop-turn.tokens)) _ c.loop-turn._turn c.loop-turn-test.true c.loop-turn.invariant.reads in
-    e ∙ braced_end _ _ _ _ _ _ _ c.if-take_body_end.ensures.reads
+    rw c.finish.ensures (e ∙ braced_end _ _ _ _ _ _ _ c.if-take_body_end.ensures.reads)
 
 pub returns-in_err-next-clause-reads : goal.returns-in_err-next-clause-reads
 returns-in_err-next-clause-reads g c =
@@ -32,7 +32,7 @@ loop-turn-preserved g c =
 pub returns-then-take_body_end-2-clause-reads : goal.returns-then-take_body_end-2-clause-reads
 returns-then-take_body_end-2-clause-reads g c =
     let e = no_more (λ n. prepended c.loop-turn.trees c.loop-turn.height (stmts_of c.args.self.now.depth c.args.beside n c.loop-turn.tokens)) _ c.loop-turn._turn c.loop-turn-test.false c.loop-turn.invariant.reads in
-    e ∙ braced_end _ _ _ _ _ _ _ c.if-take_body_end-2.ensures.reads
+    rw c.finish-then-take_body_end-2.ensures (e ∙ braced_end _ _ _ _ _ _ _ c.if-take_body_end-2.ensures.reads)
 
 pub returns-else-take_body_end-2-clause-reads : goal.returns-else-take_body_end-2-clause-reads
 returns-else-take_body_end-2-clause-reads g c =

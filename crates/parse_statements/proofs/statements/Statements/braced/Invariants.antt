@@ -1,5 +1,5 @@
 use Rattle.std.proofs.Common.{◌≡◌, ◌+◌, ◌*◌, ◌^◌, ◌-◌, ◌≤◌}
-use Rattle.parse_meaning.specs.Reading.{prepended}
+use Rattle.parse_reading.specs.Reading.{prepended}
 use Rattle.parse_statements.specs.Lists.{stmts_of}
 use Rattle.parse_statements.proofs.statements.Statements.braced.Given as goal
 

@@ -1,6 +1,6 @@
 use Rattle.std.proofs.Common.{◌≡◌, ◌∙◌, ◌+◌, suc, length, Option, List, ap, sym, subst, arith}
 use Rattle.c_tree.specs.declared.statements.Stmt.{Stmt}
-use Rattle.parse_meaning.specs.Reading.{Read, prepended}
+use Rattle.parse_reading.specs.Reading.{Read, prepended}
 use Rattle.parse_tokens.specs.Gives.{Gives}
 use Rattle.parse_tokens.proofs.Turns.{prepended-nothing}
 use Rattle.parse_statements.specs.Lists.{stmts_of}

@@ -1,7 +1,7 @@
 use Rattle.std.proofs.Common.{Option, List, ap, sym, ◌∙◌, subst}
 use Rattle.c_tree.specs.declared.statements.Stmt.{Stmt}
-use Rattle.parse_meaning.specs.Reading.{Read, prepended, expression}
-use Rattle.parse_meaning.specs.ReadingStatements as spec
+use Rattle.parse_reading.specs.Reading.{Read, prepended, expression}
+use Rattle.parse_reading.specs.ReadingStatements as spec
 use Rattle.parse_tokens.specs.Gives.{Gives}
 use Rattle.parse_tokens.proofs.Turns.{prepended-nothing}
 use Rattle.parse_initialisers.specs.Readers.{locals}

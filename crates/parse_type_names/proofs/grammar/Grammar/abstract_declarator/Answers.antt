@@ -1,6 +1,6 @@
 use Rattle.std.proofs.Common.{suc, Option, sym, subst}
 use Rattle.c_tree.specs.declared.nodes.Declarator.{Declarator}
-use Rattle.parse_meaning.specs.Reading as spec
+use Rattle.parse_reading.specs.Reading as spec
 use Rattle.parse_tokens.specs.Gives.{Gives}
 use Rattle.parse_type_names.proofs.Parts.{pointer_parts, star_taken, low_behind}
 use Rattle.parse_type_names.proofs.grammar.Grammar.abstract_declarator.Goals as goal

@@ -1,7 +1,7 @@
 use Rattle.std.proofs.Common.{◌≡◌, ◌∙◌, ℕ, suc, None, not, length, refl, rules, arith}
 use Rattle.c_tree.specs.declared.nodes.Declarator.TheVariants as d
 use Rattle.parse_meaning.specs.Terminals.{place_of}
-use Rattle.parse_meaning.specs.Reading as spec
+use Rattle.parse_reading.specs.Reading as spec
 use Rattle.parse_tokens.proofs.Turns.{one_more, no_more}
 use Rattle.parse_type_names.specs.Abstracts.{with_bound}
 use Rattle.parse_type_names.proofs.Bounds.{arrays_end, arrays_full, arrays_fail, arrays_go, bracket_taken}

@@ -1,7 +1,7 @@
 use Rattle.std.proofs.Common.{◌≡◌, suc, ◌+◌, ◌-◌, ◌≤◌, length}
 use Rattle.c_tree.specs.declared.nodes.Declarator.TheVariants as d
 use Rattle.parse_meaning.specs.Terminals.{place_of}
-use Rattle.parse_meaning.specs.Reading as spec
+use Rattle.parse_reading.specs.Reading as spec
 use Rattle.parse_type_names.proofs.grammar.Grammar.arrays.Given as goal
 
 abbrev pub invariant-loop-turn : goal.invariant-loop-turn

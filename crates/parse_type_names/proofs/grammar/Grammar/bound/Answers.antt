@@ -1,6 +1,6 @@
 use Rattle.std.proofs.Common.{rules, arith}
 use Rattle.std.proofs.lemmas.Grind.{common_steps}
-use Rattle.parse_meaning.specs.Reading as spec
+use Rattle.parse_reading.specs.Reading as spec
 use Rattle.parse_tokens.specs.Gives.{Gives}
 use Rattle.parse_leaves.proofs.Lengths.{bound_shorter, shorter_given}
 use Rattle.parse_type_names.proofs.grammar.Grammar.bound.Goals as goal

@@ -1,0 +1,15 @@
+pub mod Basics
+pub mod SoundParts
+pub mod Sound
+pub mod CompleteParts
+pub mod Complete
+pub mod Abstracts
+pub mod CompleteExprs
+pub mod SoundDeclarators
+pub mod CompleteDeclarators
+pub mod CompleteSpecs
+pub mod SoundStatements
+pub mod CompleteStatements
+pub mod Externals
+pub mod Files
+pub mod Uniqueness

@@ -1,0 +1,4 @@
+pub mod Reading
+pub mod ReadingDeclarators
+pub mod ReadingStatements
+pub mod ReadingFile
