@@ -1,1 +1,4 @@
+pub mod Images
+pub mod Parts
+pub mod Reading
 pub mod Spelling

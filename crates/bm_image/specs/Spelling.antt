@@ -3,8 +3,8 @@ use Rattle.std.specs.Prelude.{◌≡◌, ℕ, List, ◌++◌, length, codes}
 use Rattle.std.specs.List.{flat_map}
 use Rattle.std.specs.Int.{to_le_bytes, w32}
 use Rattle.bm_isa.specs.Encoding.{instruction_bytes}
-use Rattle.byte_machine.specs.Images.{PlainImage, IsImage}
-use Rattle.byte_machine.specs.declared.images.FnRec.{FnRec}
+use Rattle.bm_image.specs.Images.{PlainImage, IsImage}
+use Rattle.bm_image.specs.declared.images.FnRec.{FnRec}
 
 -- a number in four bytes, little-endian
 abbrev pub word : ℕ → List ℕ
@@ -17,7 +17,8 @@ record_bytes f = word f.first ++ (word f.params ++ (word f.regs ++ (word f.weigh
 -- the header: the magic bytes, version 1, the counts of functions, instructions and data bytes, the entry, and a spare word
 abbrev pub header_bytes : PlainImage → List ℕ
 header_bytes image =
-    codes "FC3IMAGE" ++ (word 1 ++ (word (length image.functions) ++ (word (length image.code) ++ (word (length image.bytes) ++ (word image.entry ++ word 0)))))
+    codes "FC3IMAGE" ++ (word 1 ++ (word (length image.functions) ++ (word (length image.code) ++ (word (length image.bytes) ++
+    (word image.entry ++ word 0)))))
 
 unfoldable pub bm_image : PlainImage → List ℕ
 bm_image image =

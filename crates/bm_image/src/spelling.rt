@@ -3,11 +3,11 @@
 ghost use Rattle.std.specs.Prelude.{◌≡◌, ◌++◌, IfOk, OnOk};
 ghost use Rattle.std.specs.List.{flat_map};
 ghost use Rattle.bm_isa.specs.Encoding.{instruction_bytes};
-ghost use Rattle.byte_machine.specs.Images.{plain_image, IsImage};
+ghost use Rattle.bm_image.specs.Images.{plain_image, IsImage};
 ghost use Rattle.bm_image.specs.Spelling.{word, record_bytes, header_bytes, bm_image};
 
+use crate::images::{FnRec, Image};
 use bm_isa::{Instr, encode};
-use byte_machine::{FnRec, Image};
 use fc_base::NoMemory;
 use std::alloc::Global;
 
@@ -48,15 +48,10 @@ fn write_header(alloc: Global, image: &Image) -> Result<Vec<u8>, NoMemory>
     let data = image.bytes.len();
     let mut bytes = Vec::with_capacity(alloc, 32 + 20 * functions + 16 * code + data)?;
     bytes.extend_from_slice(b"FC3IMAGE")?;
-    let words = [
-        1,
-        functions as u32,
-        code as u32,
-        data as u32,
-        image.entry,
-        0,
-    ];
-    write_words(&mut bytes, &words)?;
+    let counts = [functions as u32, code as u32, data as u32];
+    write_words(&mut bytes, &[1])?;
+    write_words(&mut bytes, &counts)?;
+    write_words(&mut bytes, &[image.entry, 0])?;
     Ok(bytes)
 }
 

@@ -2,10 +2,14 @@
 use Rattle.std.specs.Prelude.{ℕ, ◌/◌, ◌%◌, ◌^◌, List, ◌∷◌, ◌++◌, true, false}
 use Rattle.std.specs.Int.{to_le_bytes, w32}
 use Rattle.fc_base.specs.Widths.{width_bytes}
+use Rattle.fc_base.specs.declared.levels.Width.{Width}
+use Rattle.fc_base.specs.declared.levels.Width.TheVariants as widths
 use Rattle.bm_isa.specs.declared.instructions.BinaryOp.{BinaryOp}
 use Rattle.bm_isa.specs.declared.instructions.BinaryOp.TheVariants as binary
 use Rattle.bm_isa.specs.declared.instructions.DivideOp.{DivideOp}
 use Rattle.bm_isa.specs.declared.instructions.DivideOp.TheVariants as divide
+use Rattle.bm_isa.specs.declared.instructions.DivideWidth.{DivideWidth}
+use Rattle.bm_isa.specs.declared.instructions.DivideWidth.TheVariants as dividing
 use Rattle.bm_isa.specs.declared.instructions.Instr.{Instr}
 use Rattle.bm_isa.specs.declared.instructions.Instr.TheVariants as instr
 
@@ -36,6 +40,11 @@ abbrev pub divide_number : DivideOp → ℕ
 divide_number divide.Div = 15
 divide_number divide.Rem = 16
 
+-- the width of a signed division among the widths of integers
+abbrev pub as_width : DivideWidth → Width
+as_width dividing.W4 = widths.W4
+as_width dividing.W8 = widths.W8
+
 -- an instruction's number, its width, two zero bytes, and its three words, each little-endian
 abbrev pub with_width : ℕ → ℕ → ℕ → ℕ → ℕ → List ℕ
 with_width number width a b c = number ∷ width ∷ 0 ∷ 0 ∷ (to_le_bytes w32 a ++ to_le_bytes w32 b ++ to_le_bytes w32 c)
@@ -51,7 +60,7 @@ instruction_bytes (instr.Const to number) = without_width 0 to (number % 2 ^ 32)
 instruction_bytes (instr.Move to from) = without_width 1 to from 0
 instruction_bytes (instr.Slot to offset) = without_width 2 to offset 0
 instruction_bytes (instr.Binary op to left right) = without_width (binary_number op) to left right
-instruction_bytes (instr.Divide op width to left right) = with_width (divide_number op) (width_bytes width) to left right
+instruction_bytes (instr.Divide op width to left right) = with_width (divide_number op) (width_bytes (as_width width)) to left right
 instruction_bytes (instr.Extend true width to from) = with_width 17 (width_bytes width) to from 0
 instruction_bytes (instr.Extend false width to from) = with_width 18 (width_bytes width) to from 0
 instruction_bytes (instr.Select to test from) = without_width 28 to test from

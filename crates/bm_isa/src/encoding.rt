@@ -1,10 +1,10 @@
 //! The sixteen bytes of an instruction.
 
 ghost use Rattle.std.specs.Prelude.{◌≡◌};
-ghost use Rattle.bm_isa.specs.Encoding.{binary_number, divide_number, without_width, with_width, instruction_bytes};
+ghost use Rattle.bm_isa.specs.Encoding.{as_width, binary_number, divide_number, without_width, with_width, instruction_bytes};
 ghost use Rattle.fc_base.specs.Widths.{width_bytes};
 
-use crate::instructions::{BinaryOp, DivideOp, Instr};
+use crate::instructions::{BinaryOp, DivideOp, DivideWidth, Instr};
 use fc_base::Width;
 
 fn width_byte(width: Width) -> u8
@@ -15,6 +15,15 @@ fn width_byte(width: Width) -> u8
         Width::W2 => 2,
         Width::W4 => 4,
         Width::W8 => 8,
+    }
+}
+
+fn divide_width_byte(width: DivideWidth) -> u8
+    ensures { result ≡ width_bytes (as_width width) }
+{
+    match width {
+        DivideWidth::W4 => 4,
+        DivideWidth::W8 => 8,
     }
 }
 
@@ -98,7 +107,7 @@ pub fn encode(i: &Instr) -> [u8; 16]
             to,
             left,
             right,
-        } => with_width(divide_byte(op), width_byte(width), to, left, right),
+        } => with_width(divide_byte(op), divide_width_byte(width), to, left, right),
         Instr::Extend {
             signed,
             width,

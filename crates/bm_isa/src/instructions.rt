@@ -5,7 +5,7 @@ use fc_base::Width;
 
 /// An operation on two registers, modulo 2^64. `MulHigh` gives the high half of the unsigned product. Shifts take their count modulo 64; comparisons give 1 or 0; an
 /// unsigned division ends the run where the divisor is 0.
-#[derive(Clone, Copy, Debug, PartialEq, Eq)]
+#[derive(Clone, Copy)]
 pub enum BinaryOp {
     Add,
     Sub,
@@ -31,14 +31,21 @@ pub enum BinaryOp {
 }
 
 /// A signed division, cut toward zero.
-#[derive(Clone, Copy, Debug, PartialEq, Eq)]
+#[derive(Clone, Copy)]
 pub enum DivideOp {
     Div,
     Rem,
 }
 
+/// How many bytes the operands of a signed division have.
+#[derive(Clone, Copy)]
+pub enum DivideWidth {
+    W4,
+    W8,
+}
+
 /// An instruction.
-#[derive(Clone, Copy, Debug, PartialEq, Eq)]
+#[derive(Clone, Copy)]
 pub enum Instr {
     /// The register becomes the number.
     Const {
@@ -61,10 +68,10 @@ pub enum Instr {
         left: u32,
         right: u32,
     },
-    /// Ends the run where the divisor is 0, or -1 under the least number of the width, which has 4 or 8 bytes.
+    /// Ends the run where the divisor is 0, or -1 under the least number of the width.
     Divide {
         op: DivideOp,
-        width: Width,
+        width: DivideWidth,
         to: u32,
         left: u32,
         right: u32,

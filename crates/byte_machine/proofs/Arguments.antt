@@ -6,8 +6,9 @@ use Rattle.std.proofs.Math.ListN.{drop_of_length-le}
 use Rattle.std.proofs.lemmas.List.{length-replicate, take_all}
 use Rattle.std.proofs.lemmas.List.Sums.{sum_by-cons}
 use Rattle.std.proofs.lemmas.Option.{slice_get_within, get_or_from_slice_get, same_Some}
-use Rattle.byte_machine.specs.State.{first_valid}
-use Rattle.byte_machine.specs.Opening.{ArgumentsFit, argument_words, string_room, string_block, addresses, argv_address, argument_section}
+use Rattle.library_meaning.specs.Memory.{first_valid}
+use Rattle.run_meaning.specs.Worlds.{ArgumentsFit}
+use Rattle.byte_machine.specs.Opening.{argument_words, string_room, string_block, addresses, argv_address, argument_section}
 
 -- the rest of a list from a place on begins with the element there
 pub rest_at : {X : Type 0} (xs : List X) (k : ℕ) (x : X) → slice_get xs k ≡ Some x → drop k xs ≡ x ∷ drop (k + 1) xs
@@ -17,7 +18,8 @@ rest_at xs k x is =
     rw (add-one, drop-cons xs k x) (ap (λ y. y ∷ drop (suc k) xs) here)
 
 -- pieces up to a place and the rest of them, with one more piece
-pub pieces_more : {X A : Type 0} (f : X → List A) (xs : List X) (k : ℕ) (x : X) (front next all : List A) → slice_get xs k ≡ Some x → next ≡ front ++ f x
+pub pieces_more : {X A : Type 0} (f : X → List A) (xs : List X) (k : ℕ) (x : X) (front next all : List A) → slice_get xs k ≡ Some x
+    → next ≡ front ++ f x
     → front ++ flat_map f (drop k xs) ≡ all → next ++ flat_map f (drop (k + 1) xs) ≡ all
 pieces_more f xs k x front next all is grown before =
     ap (λ l. l ++ flat_map f (drop (k + 1) xs)) grown
@@ -26,12 +28,14 @@ pieces_more f xs k x front next all is grown before =
     ∙ before
 
 -- at the end no piece is left
-pub pieces_done : {X A : Type 0} (f : X → List A) (xs : List X) (k : ℕ) (front all : List A) → length xs ≤ k → front ++ flat_map f (drop k xs) ≡ all → front ≡ all
+pub pieces_done : {X A : Type 0} (f : X → List A) (xs : List X) (k : ℕ) (front all : List A) → length xs ≤ k
+    → front ++ flat_map f (drop k xs) ≡ all → front ≡ all
 pieces_done f xs k front all past before =
     sym (append-nil front) ∙ ap (λ l. front ++ flat_map f l) (sym (drop_of_length-le xs past)) ∙ before
 
 -- the same of the addresses
-pub addresses_more : {A : Type 0} (f : ℕ → List A) (words : List (List ℕ)) (k at at' : ℕ) (word : List ℕ) (front next all : List A) → slice_get words k ≡ Some word → at' ≡ at + string_room word → next ≡ front ++ f at
+pub addresses_more : {A : Type 0} (f : ℕ → List A) (words : List (List ℕ)) (k at at' : ℕ) (word : List ℕ) (front next all : List A)
+    → slice_get words k ≡ Some word → at' ≡ at + string_room word → next ≡ front ++ f at
     → front ++ flat_map f (addresses at (drop k words)) ≡ all → next ++ flat_map f (addresses at' (drop (k + 1) words)) ≡ all
 unfolding addresses
 addresses_more f words k at at' word front next all is moved grown before =
@@ -41,13 +45,15 @@ addresses_more f words k at at' word front next all is moved grown before =
     ∙ ap (λ l. front ++ flat_map f (addresses at l)) (sym (rest_at words k word is))
     ∙ before
 
-pub addresses_done : {A : Type 0} (f : ℕ → List A) (words : List (List ℕ)) (k at : ℕ) (front all : List A) → length words ≤ k → front ++ flat_map f (addresses at (drop k words)) ≡ all → front ≡ all
+pub addresses_done : {A : Type 0} (f : ℕ → List A) (words : List (List ℕ)) (k at : ℕ) (front all : List A) → length words ≤ k
+    → front ++ flat_map f (addresses at (drop k words)) ≡ all → front ≡ all
 unfolding addresses
 addresses_done f words k at front all past before =
     sym (append-nil front) ∙ ap (λ l. front ++ flat_map f (addresses at l)) (sym (drop_of_length-le words past)) ∙ before
 
 -- the sum of the rest, with one less
-pub rooms_more : {X : Type 0} (f : X → ℕ) (xs : List X) (k : ℕ) (x : X) → slice_get xs k ≡ Some x → sum_by f (drop k xs) ≡ f x + sum_by f (drop (k + 1) xs)
+pub rooms_more : {X : Type 0} (f : X → ℕ) (xs : List X) (k : ℕ) (x : X) → slice_get xs k ≡ Some x
+    → sum_by f (drop k xs) ≡ f x + sum_by f (drop (k + 1) xs)
 rooms_more f xs k x is = ap (sum_by f) (rest_at xs k x is) ∙ sum_by-cons f x (drop (k + 1) xs)
 
 pub rooms_done : {X : Type 0} (f : X → ℕ) (xs : List X) (k : ℕ) → length xs ≤ k → sum_by f (drop k xs) ≡ 0
@@ -87,7 +93,8 @@ pub few_arguments : (args : List (List ℕ)) → ArgumentsFit args → length ar
 few_arguments args fit = let h = count_within args in omega arith
 
 -- each string is short
-pub short_argument : (args : List (List ℕ)) (k : ℕ) (word : List ℕ) → ArgumentsFit args → slice_get (argument_words args) k ≡ Some word → length word ≤ 524288
+pub short_argument : (args : List (List ℕ)) (k : ℕ) (word : List ℕ) → ArgumentsFit args → slice_get (argument_words args) k ≡ Some word
+    → length word ≤ 524288
 short_argument args zero word fit is = let e : length word ≡ 4 = ap length (sym (same_Some _ _ is)) in omega arith
 short_argument args (suc k) word fit is = let h = term_within (λ (w : List ℕ). length w + 32) args k word is in omega arith
 
@@ -136,7 +143,8 @@ short_section args fit =
     omega arith
 
 -- a string is added with its NUL
-pub block_pushed : (n m room : ℕ) (front word grown next : List ℕ) → n ≡ length front → m ≡ length grown → room ≡ string_room word → grown ≡ front ++ word
+pub block_pushed : (n m room : ℕ) (front word grown next : List ℕ) → n ≡ length front → m ≡ length grown → room ≡ string_room word
+    → grown ≡ front ++ word
     → next ≡ take (n + room) grown ++ replicate (n + room - m) 0 → next ≡ front ++ string_block word
 unfolding string_block
 block_pushed n m room front word grown next at long takes grew is =
@@ -151,7 +159,8 @@ block_pushed n m room front word grown next at long takes grew is =
 
 -- the strings, the addresses and the null pointer
 pub section_closed : (args : List (List ℕ)) (strings grown next last : List ℕ) → strings ≡ flat_map string_block (argument_words args)
-    → grown ≡ strings ++ flat_map (to_le_bytes w64) (addresses first_valid (argument_words args)) → last ≡ to_le_bytes w64 0 → next ≡ grown ++ last
+    → grown ≡ strings ++ flat_map (to_le_bytes w64) (addresses first_valid (argument_words args)) → last ≡ to_le_bytes w64 0
+    → next ≡ grown ++ last
     → next ≡ argument_section args
 unfolding argument_section
 section_closed args strings grown next last texts places null is =

@@ -1,49 +1,108 @@
 -- One instruction after another.
-use Rattle.std.proofs.Common.{◌≡◌, ℕ, ◌+◌, ◌%◌, List, [], ◌∷◌, ◌++◌, Bool, true, false, nat_lt, ◌==◌, cond, is_some, Option, None, Some, slice_get, replicate, refl, sym, ◌∙◌, ap, subst, append_assoc, append-nil, add-one}
-use Rattle.fc_base.specs.Outside.{Takes, Appends, AppendsFront, IsFront}
-use Rattle.run_meaning.specs.Runs.{Shown, on_descriptor, bytes_on, Moves, MovesUpTo}
-use Rattle.run_meaning.specs.Events.{overflow_line}
-use Rattle.run_meaning.proofs.Moved.{bytes_on-same, bytes_on-other, takes-none, appends-none, appends-append}
+use Rattle.std.proofs.Common.{◌≡◌, ℕ, zero, suc, ◌+◌, ◌%◌, List, [], ◌++◌, Bool, true, false, nat_lt, cond, is_some, Option, None, Some, slice_get, replicate, refl, sym, ◌∙◌, ap, subst, append_assoc, append-nil, add-one}
+use Rattle.fc_base.specs.declared.levels.End.{End}
 use Rattle.fc_base.specs.declared.levels.End.TheVariants as ends
+use Rattle.run_meaning.specs.Runs.{Shown, on_descriptor, bytes_on}
+use Rattle.run_meaning.specs.Events.{overflow_line}
+use Rattle.run_meaning.specs.Worlds.{Input}
+use Rattle.run_meaning.specs.Objects.{Streams, Offers, Moves, MovesUpTo, NoneFell}
+use Rattle.run_meaning.specs.declared.streams.Stream.{Stream}
+use Rattle.run_meaning.specs.declared.streams.Stream.TheVariants.{Input as OfInput, Out as OfOut, Err as OfErr}
 use Rattle.bm_isa.specs.declared.instructions.Instr.{Instr}
 use Rattle.bm_isa.specs.declared.instructions.Instr.TheVariants as instr
-use Rattle.fc_base.specs.declared.levels.End.{End}
-use Rattle.byte_machine.specs.Images.{memset_chk}
-use Rattle.byte_machine.specs.declared.machine.Stop.{Stop}
+use Rattle.c_library.specs.declared.functions.LibFn.{LibFn}
+use Rattle.c_library.specs.declared.functions.LibFn.TheVariants as calls
+use Rattle.c_library.specs.Library.{call_of}
 use Rattle.byte_machine.specs.declared.machine.Stop.TheVariants as stops
 use Rattle.byte_machine.specs.declared.machine.Step.{Step}
 use Rattle.byte_machine.specs.declared.machine.Step.TheVariants as steps
-use Rattle.byte_machine.specs.State.{Core, State, Program, slot_value, put, are_valid, ending, giving, with_core, overflowing, perform, performed, next, after}
+use Rattle.byte_machine.specs.State.{Core, State, Program, slot_value, ending, giving, with_core, overflowing, host_call, numbered_call, perform, performed, next, after}
+use Rattle.library_meaning.specs.Memory.{put, are_valid}
 use Rattle.byte_machine.specs.Opening.{begun}
-use Rattle.byte_machine.specs.Machines.{Loaded, Tells, moved_next, Advances, FailsAfter}
-use Rattle.byte_machine.specs.Performing.{having_written, Wrote, FailedWriting, Performs}
+use Rattle.byte_machine.specs.Machines.{Loaded, Reaches, fault_of, moved_next, Advances, FailsAfter, StoppedStays}
+use Rattle.byte_machine.specs.Performing.{behind, having_moved, HaveMoved, Carried, FailsIn, Performs}
+use Rattle.byte_machine.proofs.Moving.{bytes_on-append, have_moved-none, have_moved-append, offers-behind, some_input, offers-some, moves_up_to}
 
 -- a state that has shown something before
 abbrev pub prefixed : Shown → State → State
 prefixed front s = record s { world = record s.world { shown = front ++ s.world.shown } }
 
--- an instruction doesn't look at what has been shown
-perform-prefixed : (program : Program) (front : Shown) (i : Instr) (s : State) → perform program i (prefixed front s) ≡ prefixed front (perform program i s)
-perform-prefixed program front (instr.Const to number) s = refl
-perform-prefixed program front (instr.Slot to offset) s = refl
-perform-prefixed program front (instr.Argument from k) s = refl
-perform-prefixed program front (instr.Return from) s = refl
-perform-prefixed program front (instr.Host to call count) s =
-    known (call == memset_chk) _ _ (go (nat_lt (slot_value s.core 3) (slot_value s.core 2)) (are_valid (slot_value s.core 0) (slot_value s.core 2))
-    (giving to (slot_value s.core 0) (record s.core { memory = put (slot_value s.core 0) (replicate (slot_value s.core 2) (slot_value s.core 1 % 256)) s.core.memory }))
-    (ending ends.BadAddress s.core)) where
-      go : (t u : Bool) (done missed : Core) → cond t (overflowing (prefixed front s)) (cond u (with_core done (prefixed front s)) (with_core missed (prefixed front s)))
+-- a library call doesn't look at what has been shown
+call-prefixed : (front : Shown) (call : LibFn) (checked : Bool) (count to : ℕ) (s : State)
+    → host_call call checked count to (prefixed front s) ≡ prefixed front (host_call call checked count to s)
+call-prefixed front calls.Exit false count to s = refl
+call-prefixed front calls.Exit true count to s = refl
+call-prefixed front calls.Abort false count to s = refl
+call-prefixed front calls.Abort true count to s = refl
+call-prefixed front calls.Malloc checked count to s = refl
+call-prefixed front calls.Calloc checked count to s = refl
+call-prefixed front calls.Realloc checked count to s = refl
+call-prefixed front calls.Free checked count to s = refl
+call-prefixed front calls.Memcpy checked count to s = refl
+call-prefixed front calls.Memmove checked count to s = refl
+call-prefixed front calls.Mempcpy checked count to s = refl
+call-prefixed front calls.Memset false count to s = refl
+call-prefixed front calls.Memset true count to s =
+    go (nat_lt (slot_value s.core 3) (slot_value s.core 2)) (are_valid (slot_value s.core 0) (slot_value s.core 2))
+    (giving to (slot_value s.core 0) (record s.core {
+      memory = put (slot_value s.core 0)
+          (replicate (slot_value s.core 2) (slot_value s.core 1 % 256)) s.core.memory;
+    }))
+    (ending ends.BadAddress s.core) where
+      go : (t u : Bool) (done missed : Core) → cond t (overflowing (prefixed front s))
+          (cond u (with_core done (prefixed front s)) (with_core missed (prefixed front s)))
           ≡ prefixed front (cond t (overflowing s) (cond u (with_core done s) (with_core missed s)))
       go true u done missed =
           ap (λ x. record { core = ending ends.Overflow s.core; world = record { input = s.world.input; shown = x } })
           (append_assoc front s.world.shown (on_descriptor 2 overflow_line))
       go false true done missed = refl
       go false false done missed = refl
+call-prefixed front calls.Bzero checked count to s = refl
+call-prefixed front calls.ExplicitBzero checked count to s = refl
+call-prefixed front calls.Memcmp checked count to s = refl
+call-prefixed front calls.Strcpy checked count to s = refl
+call-prefixed front calls.Stpcpy checked count to s = refl
+call-prefixed front calls.Strncpy checked count to s = refl
+call-prefixed front calls.Strcat checked count to s = refl
+call-prefixed front calls.Strncat checked count to s = refl
+call-prefixed front calls.Strlen checked count to s = refl
+call-prefixed front calls.Strcmp checked count to s = refl
+call-prefixed front calls.Strchr checked count to s = refl
+call-prefixed front calls.Printf checked count to s = refl
+call-prefixed front calls.Puts checked count to s = refl
+call-prefixed front calls.Putchar checked count to s = refl
+call-prefixed front calls.Dprintf checked count to s = refl
+call-prefixed front calls.Sprintf checked count to s = refl
+call-prefixed front calls.Snprintf checked count to s = refl
+call-prefixed front calls.Read checked count to s = refl
+call-prefixed front calls.Write checked count to s = refl
+call-prefixed front calls.Getchar checked count to s = refl
+call-prefixed front calls.Note checked count to s = refl
 
-      known : (t : Bool) (a b : State) → a ≡ prefixed front b → cond t a (prefixed front s) ≡ prefixed front (cond t b s)
-      known true a b same = same
-      known false a b same = refl
-perform-prefixed program front _ s = refl
+-- nor does an instruction
+perform-prefixed : (program : Program) (front : Shown) (i : Instr) (s : State)
+    → perform program i (prefixed front s) ≡ prefixed front (perform program i s)
+perform-prefixed program front (instr.Const to number) s = refl
+perform-prefixed program front (instr.Move to from) s = refl
+perform-prefixed program front (instr.Slot to offset) s = refl
+perform-prefixed program front (instr.Binary op to left right) s = refl
+perform-prefixed program front (instr.Divide op width to left right) s = refl
+perform-prefixed program front (instr.Extend signed width to from) s = refl
+perform-prefixed program front (instr.Select to test from) s = refl
+perform-prefixed program front (instr.Load signed width to at) s = refl
+perform-prefixed program front (instr.Store width from at) s = refl
+perform-prefixed program front (instr.Copy to_at from_at count) s = refl
+perform-prefixed program front (instr.Zero at count) s = refl
+perform-prefixed program front (instr.Jump target) s = refl
+perform-prefixed program front (instr.JumpIfZero test target) s = refl
+perform-prefixed program front (instr.JumpIfNotZero test target) s = refl
+perform-prefixed program front (instr.Argument from k) s = refl
+perform-prefixed program front (instr.Call to function) s = refl
+perform-prefixed program front (instr.Return from) s = refl
+perform-prefixed program front (instr.Host to call count) s = numbered (call_of call) where
+  numbered : (o : Option (LibFn × Bool)) → numbered_call o count to (prefixed front s) ≡ prefixed front (numbered_call o count to s)
+  numbered None = refl
+  numbered (Some call) = call-prefixed front call.0 call.1 count to s
 
 next-prefixed : (program : Program) (front : Shown) (s : State) → next program (prefixed front s) ≡ prefixed front (next program s)
 unfolding next
@@ -52,126 +111,139 @@ next-prefixed program front s = go (is_some s.core.stopped) (slice_get program.c
   there None = refl
   there (Some i) = perform-prefixed program front i s
 
-  go : (t : Bool) (o : Option Instr) → cond t (prefixed front s) (performed program o (prefixed front s)) ≡ prefixed front (cond t s (performed program o s))
+  go : (t : Bool) (o : Option Instr) → cond t (prefixed front s) (performed program o (prefixed front s))
+      ≡ prefixed front (cond t s (performed program o s))
   go true o = refl
   go false o = there o
 
--- k instructions lead from the one core to the other on any input, and write these bytes on standard error
-pub record WroteBy (k : ℕ) (program : Program) (core core' : Core) (written written' : Option (List ℕ)) : Type 0 where
-  pub line : List ℕ
-  pub state : (input : List ℕ) → after program k (begun core input) ≡ having_written core' input line
-  pub written_line : Appends line written written'
+-- a machine that has stopped stays as it is
+pub stopped_stays_lem : StoppedStays
+unfolding next after
+stopped_stays_lem program s end is zero = refl
+stopped_stays_lem program s end is (suc m) =
+    ap (next program) (stopped_stays_lem program s end is m)
+    ∙ ap (λ o. cond (is_some o) s (performed program (slice_get program.code s.core.running.at) s)) is
 
--- bytes on one descriptor, one after the other
-on_descriptor-append : (d : ℕ) (a b : List ℕ) → on_descriptor d (a ++ b) ≡ on_descriptor d a ++ on_descriptor d b
-on_descriptor-append d [] b = refl
-on_descriptor-append d (x ∷ a) b = ap (λ l. (d, x) ∷ l) (on_descriptor-append d a b)
-
-written_state : (core : Core) (input line : List ℕ) → having_written core input line ≡ prefixed (on_descriptor 2 line) (begun core input)
-written_state core input line = ap (λ x. record { core = core; world = record { input = input; shown = x } }) (sym (append-nil (on_descriptor 2 line)))
+-- k instructions were carried out: with whatever input is left behind what they took, they lead from the one core to the other
+pub record CarriedBy (k : ℕ) (program : Program) (core core' : Core) (old new : Streams) : Type 0 where
+  pub moved : Shown
+  pub have : HaveMoved moved old new
+  pub state : (rest : Input) → Offers new rest → after program k (begun core (behind moved rest)) ≡ having_moved core' moved rest
 
 -- no instruction
-pub wrote_by-zero : (program : Program) (core : Core) (written : Option (List ℕ)) → WroteBy 0 program core core written written
+pub carried_by-zero : (program : Program) (core : Core) (x : Streams) → CarriedBy 0 program core core x x
 unfolding after
-wrote_by-zero program core written = record { line = []; state = λ input. refl; written_line = appends-none written }
+carried_by-zero program core x = record { moved = []; have = have_moved-none x; state = λ rest offers. refl }
+
+-- one input behind another
+behind-append : (a b : Shown) (rest : Input) → behind (a ++ b) rest ≡ behind a (behind b rest)
+behind-append a b rest =
+    ap (λ (bytes : List ℕ). record rest { bytes = bytes }) (ap (λ l. l ++ rest.bytes) (bytes_on-append 0 a b) ∙ append_assoc
+    (bytes_on 0 a) (bytes_on 0 b) rest.bytes)
+
+-- a machine that has moved something has moved it before what comes
+moved-prefixed : (core : Core) (moved : Shown) (rest : Input) → having_moved core moved rest ≡ prefixed moved (begun core rest)
+moved-prefixed core moved rest = ap (λ shown. having_moved core shown rest) (sym (append-nil moved))
 
 -- one more
-pub wrote_by-more : (k : ℕ) (program : Program) (start core core' : Core) (w w' w'' : Option (List ℕ)) → WroteBy k program start core w w' → Wrote program core core' w' w''
-    → WroteBy (k + 1) program start core' w w''
+pub carried_by-more : (k : ℕ) (program : Program) (start core core' : Core) (x y z : Streams) → CarriedBy k program start core x y
+    → Carried program core core' y z
+    → CarriedBy (k + 1) program start core' x z
 unfolding after
-wrote_by-more k program start core core' w w' w'' before one = record {
-  line = before.line ++ one.line;
-  state = λ input.
+carried_by-more k program start core core' x y z before one = record {
+  moved = before.moved ++ one.moved;
+  have = have_moved-append before.moved one.moved x y z before.have one.have;
+  state = λ rest offers.
+      let inner = behind one.moved rest in
+      let offered = offers-behind one.moved y z rest one.have offers in
       rw (add-one)
-      (ap (next program) (before.state input ∙ written_state core input before.line)
-      ∙ next-prefixed program (on_descriptor 2 before.line) (begun core input)
-      ∙ ap (prefixed (on_descriptor 2 before.line)) (one.state input)
-      ∙ ap (λ x. record { core = core'; world = record { input = input; shown = x } }) (sym (on_descriptor-append 2 before.line one.line)));
-  written_line = appends-append before.line one.line w w' w'' before.written_line one.written_line;
+      (ap (λ input. next program (after program k (begun start input))) (behind-append before.moved one.moved rest)
+      ∙ ap (next program) (before.state inner offered ∙ moved-prefixed core before.moved inner)
+      ∙ next-prefixed program before.moved (begun core inner)
+      ∙ ap (prefixed before.moved) (one.state rest offers));
 }
 
--- bytes that the source tells, or any
-some_bytes : Option (List ℕ) → List ℕ
-some_bytes None = []
-some_bytes (Some bytes) = bytes
-
-tells_them : (left : Option (List ℕ)) → Tells left (some_bytes left)
-unfolding some_bytes
-tells_them None = tt
-tells_them (Some bytes) = refl
-
--- what is written on standard error alone
-moves-err : (line : List ℕ) (i o e e' : Option (List ℕ)) → Appends line e e' → Moves (on_descriptor 2 line) i i o o e e'
-moves-err line i o e e' appended = record {
-  taken = subst (λ bytes. Takes bytes i i) (sym (bytes_on-other 0 2 line refl)) (takes-none i);
-  on_out = subst (λ bytes. Appends bytes o o) (sym (bytes_on-other 1 2 line refl)) (appends-none o);
-  on_err = subst (λ bytes. Appends bytes e e') (sym (bytes_on-same 2 line refl)) appended;
-}
+-- the same of a machine as its callers see it, that keeps its program
+pub one_more : (k : ℕ) (program : Program) (start : Core) (old new : Loaded) (x y z : Streams) → old.program ≡ program
+    → CarriedBy k program start old.core x y
+    → Carried old.program old.core new.core y z → CarriedBy (k + 1) program start new.core x z
+one_more k program start old new x y z same before one =
+    carried_by-more k program start old.core new.core x y z before (subst (λ p. Carried p old.core new.core y z) same one)
 
 -- as callers see it
-pub advances : (k : ℕ) (program : Program) (core core' : Core) (i o e e' : Option (List ℕ)) → WroteBy k program core core' e e'
-    → Advances k program core core' i i o o e e'
-advances k program core core' i o e e' wrote = record {
-  bytes = some_bytes i;
-  told = tells_them i;
-  state = ap (λ s. s.core) (wrote.state (some_bytes i));
-  moves = subst (λ shown. Moves shown i i o o e e') (sym (ap (λ s. s.world.shown) (wrote.state (some_bytes i)))) (moves-err wrote.line i o e e' wrote.written_line);
-}
+pub advances : (k : ℕ) (program : Program) (core core' : Core) (x y : Streams) → CarriedBy k program core core' x y
+    → Advances k program core core' x y
+advances k program core core' x y carried =
+    let rest = some_input y in
+    let is = carried.state rest (offers-some y) in
+    record {
+      input = behind carried.moved rest;
+      offered = offers-behind carried.moved x y rest carried.have (offers-some y);
+      state = ap (λ s. s.core) is;
+      moves = subst (λ shown. Moves shown x y) (sym (ap (λ s. s.world.shown) is)) carried.have.moves;
+    }
 
--- what is written on standard error, and a front of what comes next
-moves_up_to-err : (line coming : List ℕ) (i o e e' e'' : Option (List ℕ)) → Appends line e e' → AppendsFront coming e' e''
-    → MovesUpTo (on_descriptor 2 line) (on_descriptor 2 coming) i i o o e e''
-moves_up_to-err line coming i o e e' e'' appended front = record {
-  taken = ([], (bytes_on 0 (on_descriptor 2 coming), refl), subst (λ bytes. Takes (bytes ++ []) i i) (sym (bytes_on-other 0 2 line refl)) (takes-none i));
-  on_out = ([], (bytes_on 1 (on_descriptor 2 coming), refl), subst (λ bytes. Appends (bytes ++ []) o o) (sym (bytes_on-other 1 2 line refl)) (appends-none o));
-  on_err = (
-    front.0,
-    subst (λ bytes. IsFront front.0 bytes) (sym (bytes_on-same 2 coming refl)) front.1,
-    subst (λ bytes. Appends (bytes ++ front.0) e e'') (sym (bytes_on-same 2 line refl)) (appends-append line front.0 e e' e'' appended front.2),
-  );
-}
+-- an instruction reaches the same streams whatever has moved before it
+reaches-same : (which : Stream) (program : Program) (core : Core) (moved : Shown) (input : Input)
+    → Reaches which program (begun core input) → Reaches which program (having_moved core moved input)
+reaches-same OfInput program core moved input reaches = reaches
+reaches-same OfOut program core moved input reaches = reaches
+reaches-same OfErr program core moved input reaches = reaches
 
--- standard error failed after k instructions
-pub fails_after : (k : ℕ) (program : Program) (start core : Core) (i o e e' e'' : Option (List ℕ)) → WroteBy k program start core e e' → core.stopped ≡ None
-    → FailedWriting program core e' e'' → FailsAfter k 2 program start i i o o e e''
-fails_after k program start core i o e e' e'' before running failed = record {
-  bytes = some_bytes i;
-  told = tells_them i;
-  running = ap (λ s. s.core.stopped) (before.state (some_bytes i)) ∙ running;
-  reaches = λ none. failed.some (sym (ap (bytes_on 2) shown ∙ bytes_on-same 2 failed.line refl) ∙ none);
-  moves = subst (λ now. MovesUpTo now (moved_next program (after program k (begun start (some_bytes i)))) i i o o e e'')
-      (sym (ap (λ s. s.world.shown) (before.state (some_bytes i))))
-      (subst (λ coming. MovesUpTo (on_descriptor 2 before.line) coming i i o o e e'') (sym shown) (moves_up_to-err before.line failed.line i o e e' e'' before.written_line failed.front));
-} where
-  shown : moved_next program (after program k (begun start (some_bytes i))) ≡ on_descriptor 2 failed.line
-  shown = ap (moved_next program) (before.state (some_bytes i)) ∙ failed.shown (some_bytes i)
+-- a stream failed after k instructions
+pub fails_after : (which : Stream) (k : ℕ) (program : Program) (start core : Core) (x y z : Streams) → CarriedBy k program start core x y
+    → core.stopped ≡ None
+    → FailsIn which program core y z → FailsAfter which k program start x z
+fails_after which k program start core x y z before running failed =
+    let rest = some_input z in
+    let inner = behind failed.moved rest in
+    let offered = offers-behind failed.moved y z rest failed.have (offers-some z) in
+    let is : after program k (begun start (behind before.moved inner)) ≡ having_moved core before.moved inner =
+    before.state inner offered in
+    record {
+      input = behind before.moved inner;
+      offered = offers-behind before.moved x y inner before.have offered;
+      running = ap (λ s. s.core.stopped) is ∙ running;
+      reaches = subst (λ s. Reaches which program s) (sym is) (reaches-same which program core before.moved inner
+          (failed.reaches rest (offers-some z)));
+      moves = subst (λ s. MovesUpTo s.world.shown (moved_next program s) x z) (sym is)
+          (moves_up_to before.moved failed.moved (moved_next program (begun core inner)) x y z before.have.moves failed.have.moves
+          (failed.front rest (offers-some z)));
+    }
+
+pub fails_next : (which : Stream) (k : ℕ) (program : Program) (start : Core) (old : Loaded) (x y z : Streams) → old.program ≡ program
+    → CarriedBy k program start old.core x y → old.core.stopped ≡ None
+    → FailsIn which old.program old.core y z → FailsAfter which k program start x z
+fails_next which k program start old x y z same before running failed =
+    fails_after which k program start old.core x y z before running (subst (λ p. FailsIn which p old.core y z) same failed)
 
 -- what an answer of one instruction says, by the answer
-pub goes : (old new : Loaded) (w w' : Option (List ℕ)) {step : Step} → step ≡ steps.Going → Performs old new step w w'
-    → Wrote old.program old.core new.core w w' × (new.core.stopped ≡ None) × (new.stop ≡ None)
-goes old new w w' is performs = subst (λ s. Performs old new s w w') is performs
+pub goes : (old new : Loaded) (x y : Streams) {step : Step} → step ≡ steps.Going → Performs old new step x y
+    → Carried old.program old.core new.core x y × (new.core.stopped ≡ None) × (new.stop ≡ None)
+goes old new x y is performs = subst (λ s. Performs old new s x y) is performs
 
-pub ended : (old new : Loaded) (w w' : Option (List ℕ)) {step : Step} (end : End) → step ≡ steps.Stopped (stops.Ended end)
-    → Performs old new step w w' → Wrote old.program old.core new.core w w' × (new.core.stopped ≡ Some end) × (new.stop ≡ Some (stops.Ended end))
-ended old new w w' end is performs = subst (λ s. Performs old new s w w') is performs
+pub ended : (old new : Loaded) (x y : Streams) {step : Step} (end : End) → step ≡ steps.Stopped (stops.Ended end)
+    → Performs old new step x y → Carried old.program old.core new.core x y × (new.core.stopped ≡ Some end) ×
+    (new.stop ≡ Some (stops.Ended end))
+ended old new x y end is performs = subst (λ s. Performs old new s x y) is performs
 
-pub faults : (old new : Loaded) (w w' : Option (List ℕ)) {step : Step} → step ≡ steps.Stopped stops.ErrFault
-    → Performs old new step w w' → FailedWriting old.program old.core w w' × (new.stop ≡ Some stops.ErrFault)
-faults old new w w' is performs = subst (λ s. Performs old new s w w') is performs
+pub faults : (old new : Loaded) (x y : Streams) {step : Step} (which : Stream) → step ≡ steps.Stopped (fault_of which)
+    → Performs old new step x y → FailsIn which old.program old.core x y × (new.stop ≡ Some (fault_of which))
+faults old new x y which is performs = go which (subst (λ s. Performs old new s x y) is performs) where
+  go : (which : Stream) → Performs old new (steps.Stopped (fault_of which)) x y
+      → FailsIn which old.program old.core x y × (new.stop ≡ Some (fault_of which))
+  go OfInput performs = performs
+  go OfOut performs = performs
+  go OfErr performs = performs
 
--- a stop that no instruction so far answers
-abbrev pub IsOther : Stop → Type 0
-IsOther stops.OutOfSteps = Unit {0}
-IsOther stops.InputFault = Unit {0}
-IsOther stops.OutFault = Unit {0}
-IsOther _ = ⊥
+pub no_bound : (old new : Loaded) (x y : Streams) {step : Step} → step ≡ steps.Stopped stops.OutOfSteps → Performs old new step x y → ⊥
+no_bound old new x y is performs = subst (λ s. Performs old new s x y) is performs
 
--- the other stops are none of an instruction's
-pub no_other : (old new : Loaded) (w w' : Option (List ℕ)) (stop : Stop) {step : Step} → step ≡ steps.Stopped stop → IsOther stop → Performs old new step w w' → ⊥
-no_other old new w w' stop is other performs = go stop other (subst (λ s. Performs old new s w w') is performs) where
-  go : (stop : Stop) → IsOther stop → Performs old new (steps.Stopped stop) w w' → ⊥
-  go stops.OutOfSteps other performs = performs
-  go stops.InputFault other performs = performs
-  go stops.OutFault other performs = performs
-  go (stops.Ended end) other performs = other
-  go stops.ErrFault other performs = other
+-- in no answer a count fell
+pub none_fell : (old new : Loaded) (x y : Streams) (step : Step) → Performs old new step x y → NoneFell x y
+none_fell old new x y steps.Going performs = performs.0.have.fell
+none_fell old new x y (steps.Stopped (stops.Ended end)) performs = performs.0.have.fell
+none_fell old new x y (steps.Stopped stops.OutOfSteps) performs = absurd performs
+none_fell old new x y (steps.Stopped stops.InputFault) performs = performs.0.have.fell
+none_fell old new x y (steps.Stopped stops.OutFault) performs = performs.0.have.fell
+none_fell old new x y (steps.Stopped stops.ErrFault) performs = performs.0.have.fell

@@ -1,4 +1,3 @@
-pub mod Images
 pub mod Machines
 pub mod Opening
 pub mod Performing

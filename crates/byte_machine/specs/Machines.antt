@@ -1,9 +1,18 @@
--- What the calls of a machine promise, over any source and any sinks. This project's own.
-use Rattle.std.specs.Prelude.{◌≡◌, ◌≢◌, ℕ, zero, suc, ◌≤◌, List, [], Option, None, slice_get}
-use Rattle.fc_base.specs.Outside.{IfTold}
-use Rattle.run_meaning.specs.Runs.{Shown, Moves, MovesUpTo, bytes_on}
+-- What the calls of a machine promise, over any streams. This project's own.
+use Rattle.std.specs.Prelude.{◌≡◌, ◌≢◌, ℕ, ◌≤◌, Bool, [], Option, None, Some, slice_get}
+use Rattle.run_meaning.specs.Runs.{Shown, bytes_on}
+use Rattle.run_meaning.specs.Worlds.{Input}
+use Rattle.run_meaning.specs.Objects.{Streams, Offers, Moves, MovesUpTo, descriptor_of}
+use Rattle.run_meaning.specs.declared.streams.Stream.{Stream}
+use Rattle.run_meaning.specs.declared.streams.Stream.TheVariants.{Input as OfInput, Out as OfOut, Err as OfErr}
+use Rattle.fc_base.specs.declared.levels.End.{End}
 use Rattle.bm_isa.specs.declared.instructions.Instr.{Instr}
+use Rattle.bm_isa.specs.declared.instructions.Instr.TheVariants as instr
+use Rattle.c_library.specs.declared.functions.LibFn.{LibFn}
+use Rattle.c_library.specs.declared.functions.LibFn.TheVariants as calls
+use Rattle.c_library.specs.Library.{call_of}
 use Rattle.byte_machine.specs.declared.machine.Stop.{Stop}
+use Rattle.byte_machine.specs.declared.machine.Stop.TheVariants as stops
 use Rattle.byte_machine.specs.State.{Core, State, Program, next, after}
 use Rattle.byte_machine.specs.Opening.{begun}
 
@@ -13,35 +22,59 @@ pub record Loaded : Type 0 where
   pub core : Core
   pub stop : Option Stop
 
--- the input that is left is these bytes, where it is told
-abbrev pub Tells : Option (List ℕ) → List ℕ → Type 0
-Tells left bytes = IfTold left (λ told. told ≡ bytes)
+-- the stop at a fault of a stream
+abbrev pub fault_of : Stream → Stop
+fault_of OfInput = stops.InputFault
+fault_of OfOut = stops.OutFault
+fault_of OfErr = stops.ErrFault
+
+-- the end of a run, where a stop is one
+abbrev pub end_of_stop : Option Stop → Option End
+end_of_stop (Some (stops.Ended end)) = Some end
+end_of_stop _ = None
 
 -- what the next instruction alone moves
 abbrev pub moved_next : Program → State → Shown
 moved_next program s = (next program (begun s.core s.world.input)).world.shown
 
--- how many bytes of input an instruction asks for. No instruction so far asks for any
-abbrev pub asked : Option Instr → State → ℕ
-asked _ s = 0
+-- how many bytes of descriptor 0 a library call asks for: `read` and `getchar` alone ask for any, and the machine doesn't
+-- have them yet
+abbrev pub asked_by : LibFn → Bool → Core → ℕ
+asked_by calls.Read checked core = 0
+asked_by calls.Getchar checked core = 0
+asked_by _ checked core = 0
 
--- the next instruction asks descriptor 0 for at least one byte, or has at least one to write on another
-abbrev pub Reaches : ℕ → Program → State → Type 0
-Reaches zero program s = 1 ≤ asked (slice_get program.code s.core.running.at) s
-Reaches (suc d) program s = bytes_on (suc d) (moved_next program s) ≢ []
+abbrev pub asked_by_numbered : Option (LibFn × Bool) → Core → ℕ
+asked_by_numbered None core = 0
+asked_by_numbered (Some call) core = asked_by call.0 call.1 core
 
--- m instructions lead from the one core to the other, and move these bytes
-pub record Advances (m : ℕ) (program : Program) (core core' : Core) (input input' out out' err err' : Option (List ℕ)) : Type 0 where
-  pub bytes : List ℕ
-  pub told : Tells input bytes
-  pub state : (after program m (begun core bytes)).core ≡ core'
-  pub moves : Moves (after program m (begun core bytes)).world.shown input input' out out' err err'
+-- how many an instruction asks for: none but a library call asks for any
+abbrev pub asked : Option Instr → Core → ℕ
+asked (Some (instr.Host to call count)) core = asked_by_numbered (call_of call) core
+asked _ core = 0
 
--- an object fails in the instruction after m, which reaches the descriptor: all of m has moved, and of that instruction a
--- front at each object
-pub record FailsAfter (m : ℕ) (descriptor : ℕ) (program : Program) (core : Core) (input input' out out' err err' : Option (List ℕ)) : Type 0 where
-  pub bytes : List ℕ
-  pub told : Tells input bytes
-  pub running : (after program m (begun core bytes)).core.stopped ≡ None
-  pub reaches : Reaches descriptor program (after program m (begun core bytes))
-  pub moves : MovesUpTo (after program m (begun core bytes)).world.shown (moved_next program (after program m (begun core bytes))) input input' out out' err err'
+-- the next instruction asks descriptor 0 for at least one byte, or has at least one to write on the descriptor
+abbrev pub Reaches : Stream → Program → State → Type 0
+Reaches OfInput program s = 1 ≤ asked (slice_get program.code s.core.running.at) s.core
+Reaches OfOut program s = bytes_on (descriptor_of OfOut) (moved_next program s) ≢ []
+Reaches OfErr program s = bytes_on (descriptor_of OfErr) (moved_next program s) ≢ []
+
+-- m instructions lead from the one core to the other, and the streams move what they move
+pub record Advances (m : ℕ) (program : Program) (core core' : Core) (old new : Streams) : Type 0 where
+  pub input : Input
+  pub offered : Offers old input
+  pub state : (after program m (begun core input)).core ≡ core'
+  pub moves : Moves (after program m (begun core input)).world.shown old new
+
+-- a stream fails in the instruction after m, which reaches it: all of m has moved, and of that instruction a front on each
+-- stream
+pub record FailsAfter (which : Stream) (m : ℕ) (program : Program) (core : Core) (old new : Streams) : Type 0 where
+  pub input : Input
+  pub offered : Offers old input
+  pub running : (after program m (begun core input)).core.stopped ≡ None
+  pub reaches : Reaches which program (after program m (begun core input))
+  pub moves : MovesUpTo (after program m (begun core input)).world.shown (moved_next program (after program m (begun core input))) old new
+
+-- a machine that has stopped stays as it is
+abbrev pub StoppedStays : Type 0
+StoppedStays = (program : Program) (s : State) (end : End) → s.core.stopped ≡ Some end → (m : ℕ) → after program m s ≡ s

@@ -1,17 +1,16 @@
 -- The first state of a machine. This project's own.
-use Rattle.std.specs.Prelude.{ℕ, ◌+◌, ◌-◌, ◌*◌, ◌/◌, ◌≤◌, ◌==◌, List, [], ◌∷◌, ◌++◌, length, replicate, ◌||◌, nat_lt, cond, Option, None, Some, codes, sum_by}
+use Rattle.std.specs.Prelude.{ℕ, ◌+◌, ◌-◌, ◌*◌, ◌/◌, ◌==◌, List, [], ◌∷◌, ◌++◌, length, replicate, ◌||◌, nat_lt, cond, Option, None, Some, codes, sum_by}
 use Rattle.std.specs.List.{flat_map}
 use Rattle.std.specs.Int.{to_le_bytes, w64}
 use Rattle.run_meaning.specs.Runs.{Runs}
+use Rattle.run_meaning.specs.Worlds.{Input}
 use Rattle.fc_base.specs.declared.levels.End.{End}
 use Rattle.fc_base.specs.declared.levels.End.TheVariants as ends
-use Rattle.byte_machine.specs.declared.images.FnRec.{FnRec}
-use Rattle.byte_machine.specs.Images.{PlainImage, function_at}
-use Rattle.byte_machine.specs.State.{memory_size, first_valid, data_start, stack_start, stack_frames, stack_weights, whole_heap, Core, State, Program, put, after, standing_of}
-
--- each argument counts its length and 32 more; the sum is bounded
-abbrev pub ArgumentsFit : List (List ℕ) → Type 0
-ArgumentsFit args = sum_by (λ word. length word + 32) args ≤ 524288
+use Rattle.bm_image.specs.declared.images.FnRec.{FnRec}
+use Rattle.bm_image.specs.Images.{PlainImage, function_at}
+use Rattle.bm_heap.specs.Heaps.{whole_heap}
+use Rattle.byte_machine.specs.State.{data_start, stack_start, stack_frames, stack_weights, Core, State, Program, after, standing_of}
+use Rattle.library_meaning.specs.Memory.{memory_size, first_valid, put}
 
 -- a length rounded up to a multiple of 16
 abbrev pub rounded : ℕ → ℕ
@@ -73,8 +72,8 @@ core_at image args f = record {
 abbrev pub first_core : PlainImage → List (List ℕ) → Core
 first_core image args = core_at image args (function_at image.functions image.entry)
 
--- a machine with these bytes before it, that has shown nothing
-abbrev pub begun : Core → List ℕ → State
+-- a machine with this input before it, that has shown nothing
+abbrev pub begun : Core → Input → State
 begun core input = record { core = core; world = record { input = input; shown = [] } }
 
 -- the functions and the code of an image
@@ -82,7 +81,7 @@ abbrev pub program_of : PlainImage → Program
 program_of image = record { functions = image.functions; code = image.code }
 
 -- the machine's run: what is shown after each number of instructions, and how it stands
-abbrev pub machine_runs : PlainImage → List (List ℕ) → List ℕ → Runs
+abbrev pub machine_runs : PlainImage → List (List ℕ) → Input → Runs
 machine_runs image args input m =
     let s = after (program_of image) m (begun (first_core image args) input) in
     (s.world.shown, standing_of s.core.stopped)

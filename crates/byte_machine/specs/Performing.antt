@@ -1,37 +1,121 @@
--- What one instruction does to a machine and to standard error, the one object that the instructions so far reach.
-use Rattle.std.specs.Prelude.{◌≡◌, ◌≢◌, ℕ, List, [], Option, None, Some}
-use Rattle.fc_base.specs.Outside.{Appends, AppendsFront}
-use Rattle.run_meaning.specs.Runs.{on_descriptor}
+-- What one instruction does to a machine and to the streams. It serves the proofs alone.
+use Rattle.std.specs.Prelude.{◌≡◌, Bool, ℕ, List, [], ◌∷◌, ◌++◌, None, Some, slice_get, false, true, length, nat_le, nat_lt, ◌&&◌}
+use Rattle.fc_base.specs.Outside.{IsAtEnd, IsFront}
+use Rattle.run_meaning.specs.Runs.{Shown, bytes_on}
+use Rattle.run_meaning.specs.Worlds.{AreBytes, Input}
+use Rattle.run_meaning.specs.Objects.{Streams, Offers, Moves, NoneFell, Failed}
+use Rattle.run_meaning.specs.declared.streams.Stream.{Stream}
+use Rattle.run_meaning.specs.declared.streams.Stream.TheVariants.{Input as OfInput, Out as OfOut, Err as OfErr}
+use Rattle.bm_isa.specs.declared.instructions.Instr.{Instr}
+use Rattle.bm_isa.specs.declared.instructions.Instr.TheVariants as instr
+use Rattle.c_library.specs.declared.functions.LibFn.{LibFn}
+use Rattle.c_library.specs.Library.{call_of}
+use Rattle.bm_image.specs.Images.{bounds_of, ends_function}
 use Rattle.byte_machine.specs.State.{Core, State, Program, next}
 use Rattle.byte_machine.specs.Opening.{begun}
-use Rattle.byte_machine.specs.Machines.{Loaded}
+use Rattle.byte_machine.specs.Machines.{Loaded, Reaches, end_of_stop, moved_next}
+use Rattle.byte_machine.specs.declared.machine.Stop.{Stop}
 use Rattle.byte_machine.specs.declared.machine.Stop.TheVariants as stops
 use Rattle.byte_machine.specs.declared.machine.Step.{Step}
 use Rattle.byte_machine.specs.declared.machine.Step.TheVariants as steps
 
--- a machine with these bytes before it that has written these on standard error
-abbrev pub having_written : Core → List ℕ → List ℕ → State
-having_written core input line = record { core = core; world = record { input = input; shown = on_descriptor 2 line } }
+-- a machine that has not stopped
+abbrev pub IsGoing : Loaded → Type 0
+IsGoing l = (l.core.stopped ≡ None) × (l.stop ≡ None)
 
--- the instruction was carried out, on any input, and wrote this line
-pub record Wrote (program : Program) (core core' : Core) (written written' : Option (List ℕ)) : Type 0 where
-  pub line : List ℕ
-  pub state : (input : List ℕ) → next program (begun core input) ≡ having_written core' input line
-  pub written_line : Appends line written written'
+-- the instruction that a machine stands at
+abbrev pub StandsAt : Loaded → Instr → Type 0
+StandsAt l i = slice_get l.program.code l.core.running.at ≡ Some i
 
--- standard error failed in an instruction that writes this line, of which a front was written
-pub record FailedWriting (program : Program) (core : Core) (written written' : Option (List ℕ)) : Type 0 where
-  pub line : List ℕ
-  pub some : line ≢ []
-  pub shown : (input : List ℕ) → (next program (begun core input)).world.shown ≡ on_descriptor 2 line
-  pub front : AppendsFront line written written'
+-- the registers that an instruction names, in the order of its fields
+abbrev pub registers_of : Instr → List ℕ
+registers_of (instr.Const to number) = to ∷ []
+registers_of (instr.Move to from) = to ∷ from ∷ []
+registers_of (instr.Slot to offset) = to ∷ []
+registers_of (instr.Binary op to left right) = to ∷ left ∷ right ∷ []
+registers_of (instr.Divide op width to left right) = to ∷ left ∷ right ∷ []
+registers_of (instr.Extend signed width to from) = to ∷ from ∷ []
+registers_of (instr.Select to test from) = to ∷ test ∷ from ∷ []
+registers_of (instr.Load signed width to at) = to ∷ at ∷ []
+registers_of (instr.Store width from at) = from ∷ at ∷ []
+registers_of (instr.Copy to_at from_at count) = to_at ∷ from_at ∷ []
+registers_of (instr.Zero at count) = at ∷ []
+registers_of (instr.Jump target) = []
+registers_of (instr.JumpIfZero test target) = test ∷ []
+registers_of (instr.JumpIfNotZero test target) = test ∷ []
+registers_of (instr.Argument from k) = from ∷ []
+registers_of (instr.Call to function) = to ∷ []
+registers_of (instr.Return from) = from ∷ []
+registers_of (instr.Host to call count) = to ∷ []
+
+-- the instruction that a machine stands at names the register, at the k-th place
+pub record Names (l : Loaded) (r : ℕ) : Type 0 where
+  pub i : Instr
+  pub k : ℕ
+  pub stands : StandsAt l i
+  pub named : slice_get (registers_of i) k ≡ Some r
+
+-- the library call that a machine stands at, checked or not, and the register of its result
+pub record StandsAtCall (l : Loaded) (call : LibFn) (checked : Bool) (to : ℕ) : Type 0 where
+  pub number : ℕ
+  pub count : ℕ
+  pub stands : StandsAt l (instr.Host to number count)
+  pub is : call_of number ≡ Some (call, checked)
+
+-- control goes on behind the instruction that a machine stands at
+abbrev pub GoesOn : Loaded → Type 0
+GoesOn l = (i : Instr) × StandsAt l i × (ends_function i ≡ false)
+
+-- an instruction of the running call's function
+abbrev pub Lands : Loaded → ℕ → Type 0
+Lands l target =
+    let bounds = bounds_of l.program.functions (length l.program.code) l.core.running.function in
+    (nat_le bounds.first target && nat_lt target bounds.end) ≡ true
+
+-- a machine that stops so
+abbrev pub stopped_with : Stop → Loaded → Loaded
+stopped_with stop l = record l { core = record l.core { stopped = end_of_stop (Some stop) }; stop = Some stop }
+
+-- an input with the bytes before it that these pairs took
+abbrev pub behind : Shown → Input → Input
+behind moved rest = record rest { bytes = bytes_on 0 moved ++ rest.bytes }
+
+-- a machine with this input before it that has moved this
+abbrev pub having_moved : Core → Shown → Input → State
+having_moved core moved rest = record { core = core; world = record { input = rest; shown = moved } }
+
+-- the streams moved this, and no count of faults fell. What was taken are bytes, and a source that told nothing tells at
+-- most that it has ended
+pub record HaveMoved (moved : Shown) (old new : Streams) : Type 0 where
+  pub moves : Moves moved old new
+  pub fell : NoneFell old new
+  pub are_bytes : AreBytes (bytes_on 0 moved)
+  pub untold : old.input.told ≡ None → IsAtEnd new.input.told
+
+-- an instruction was carried out: with whatever input is left behind what it took, it is the next one's step
+pub record Carried (program : Program) (core core' : Core) (old new : Streams) : Type 0 where
+  pub moved : Shown
+  pub have : HaveMoved moved old new
+  pub state : (rest : Input) → Offers new rest → next program (begun core (behind moved rest)) ≡ having_moved core' moved rest
+
+-- a stream failed in an instruction that reaches it, of which a front was moved
+pub record FailsIn (which : Stream) (program : Program) (core : Core) (old new : Streams) : Type 0 where
+  pub moved : Shown
+  pub have : HaveMoved moved old new
+  pub failed : Failed which old new
+  pub reaches : (rest : Input) → Offers new rest → Reaches which program (begun core (behind moved rest))
+  pub front : (rest : Input) → Offers new rest → IsFront moved (moved_next program (begun core (behind moved rest)))
 
 -- what a step's answer says
-abbrev pub Performs : Loaded → Loaded → Step → Option (List ℕ) → Option (List ℕ) → Type 0
-Performs old new steps.Going written written' =
-    Wrote old.program old.core new.core written written' × (new.core.stopped ≡ None) × (new.stop ≡ None)
-Performs old new (steps.Stopped (stops.Ended end)) written written' =
-    Wrote old.program old.core new.core written written' × (new.core.stopped ≡ Some end) × (new.stop ≡ Some (stops.Ended end))
-Performs old new (steps.Stopped stops.ErrFault) written written' =
-    FailedWriting old.program old.core written written' × (new.stop ≡ Some stops.ErrFault)
-Performs old new _ written written' = ⊥
+abbrev pub Performs : Loaded → Loaded → Step → Streams → Streams → Type 0
+Performs old new steps.Going before after =
+    Carried old.program old.core new.core before after × (new.core.stopped ≡ None) × (new.stop ≡ None)
+Performs old new (steps.Stopped (stops.Ended end)) before after =
+    Carried old.program old.core new.core before after × (new.core.stopped ≡ Some end) × (new.stop ≡ Some (stops.Ended end))
+Performs old new (steps.Stopped stops.OutOfSteps) before after = ⊥
+Performs old new (steps.Stopped stops.InputFault) before after =
+    FailsIn OfInput old.program old.core before after × (new.stop ≡ Some stops.InputFault)
+Performs old new (steps.Stopped stops.OutFault) before after =
+    FailsIn OfOut old.program old.core before after × (new.stop ≡ Some stops.OutFault)
+Performs old new (steps.Stopped stops.ErrFault) before after =
+    FailsIn OfErr old.program old.core before after × (new.stop ≡ Some stops.ErrFault)

@@ -1,23 +1,26 @@
 -- The machine's state and the table of its instructions. It knows addresses and numbers alone. This project's own.
-use Rattle.std.specs.Prelude.{ℕ, zero, suc, ◌+◌, ◌%◌, List, [], ◌∷◌, ◌++◌, length, Bool, ◌&&◌, ◌||◌, ◌==◌, nat_lt, nat_le, cond, Option, None, Some, slice_get, slice_index, slice_set, replicate, is_some}
+use Rattle.std.specs.Prelude.{ℕ, zero, suc, ◌+◌, ◌%◌, ◌^◌, List, [], ◌∷◌, ◌++◌, length, Bool, ◌&&◌, ◌||◌, not, ◌==◌, nat_lt, nat_le, cond, Option, None, Some, slice_get, slice_index, slice_range, slice_set, replicate, is_some, true, false}
 use Rattle.std.specs.List.{splice}
-use Rattle.run_meaning.specs.Runs.{Shown, Standing, Ended, Going, World, on_descriptor}
+use Rattle.std.specs.Int.{from_le_bytes, to_le_bytes, w16, w32, w64}
+use Rattle.run_meaning.specs.Runs.{Shown, Standing, Ended, Going, on_descriptor}
+use Rattle.run_meaning.specs.Worlds.{World}
 use Rattle.run_meaning.specs.Events.{overflow_line}
 use Rattle.fc_base.specs.declared.levels.End.{End}
 use Rattle.fc_base.specs.declared.levels.End.TheVariants as ends
 use Rattle.bm_isa.specs.declared.instructions.Instr.{Instr}
 use Rattle.bm_isa.specs.declared.instructions.Instr.TheVariants as instr
-use Rattle.byte_machine.specs.declared.images.FnRec.{FnRec}
-use Rattle.byte_machine.specs.Images.{memset_chk}
+use Rattle.c_library.specs.declared.functions.LibFn.{LibFn}
+use Rattle.c_library.specs.declared.functions.LibFn.TheVariants as calls
+use Rattle.c_library.specs.Library.{call_of}
+use Rattle.bm_image.specs.declared.images.FnRec.{FnRec}
+use Rattle.fc_base.specs.declared.levels.Width.{Width}
+use Rattle.fc_base.specs.declared.levels.Width.TheVariants as widths
+use Rattle.fc_base.specs.Widths.{width_bytes, extended}
+use Rattle.bm_arithmetic.specs.Arithmetic.{binary_value, divide_value}
+use Rattle.bm_heap.specs.Heaps.{Heap}
+use Rattle.library_meaning.specs.Memory.{memory_size, first_valid, are_valid, put, bytes_at}
 
--- memory has this many bytes, and below the first valid address none may be touched
-abbrev pub memory_size : ℕ
-memory_size = 17825792
-
-abbrev pub first_valid : ℕ
-first_valid = 65536
-
--- where the data section, the stack and the heap begin, and how much stack and heap there is
+-- where the data section, the stack and the heap begin, and how much stack there is
 abbrev pub data_start : ℕ
 data_start = 1048576
 
@@ -33,33 +36,12 @@ stack_weights = 16777216
 abbrev pub heap_start : ℕ
 heap_start = 9437184
 
-abbrev pub heap_size : ℕ
-heap_size = 8388608
-
 -- a call: its function, the instruction it stands at, the address of its frame, and its registers
 pub record Window : Type 0 where
   pub function : ℕ
   pub at : ℕ
   pub base : ℕ
   pub registers : List ℕ
-
--- free bytes of the heap, and a live block with the size that was asked for. Places count from the heap's start
-pub record Hole : Type 0 where
-  pub start : ℕ
-  pub count : ℕ
-
-pub record Block : Type 0 where
-  pub place : ℕ
-  pub size : ℕ
-
--- the heap: its holes and its live blocks, each in the order of their places
-pub record Heap : Type 0 where
-  pub holes : List Hole
-  pub blocks : List Block
-
--- the heap of a machine that has just been opened
-abbrev pub whole_heap : Heap
-whole_heap = record { holes = record { start = 0; count = heap_size } ∷ []; blocks = [] }
 
 -- the machine without the world: the bytes of memory, the running call, the calls that wait for it from the newest
 -- on, the argument slots, the heap, and how the run ended
@@ -97,15 +79,55 @@ going_on core = record core { running = record core.running { at = core.running.
 
 -- the same with this number in a register
 abbrev pub giving : ℕ → ℕ → Core → Core
-giving to number core = record core { running = record core.running { at = core.running.at + 1; registers = slice_set core.running.registers to number } }
+giving to number core =
+    record core { running = record core.running { at = core.running.at + 1; registers = slice_set core.running.registers to number } }
 
--- n bytes from an address on may be touched
-abbrev pub are_valid : ℕ → ℕ → Bool
-are_valid address n = (n == 0) || (nat_le first_valid address && nat_le (address + n) memory_size)
+-- the same where there is a number. A division that gives none ends the run
+abbrev pub giving_if : ℕ → Option ℕ → Core → Core
+giving_if to None core = ending ends.Fpe core
+giving_if to (Some number) core = giving to number core
 
--- memory with these bytes at an address
-abbrev pub put : ℕ → List ℕ → List ℕ → List ℕ
-put address bytes memory = splice memory address (address + length bytes) bytes
+-- the running call goes on at an instruction, or there where a test holds, and else behind its instruction
+abbrev pub going_to : ℕ → Core → Core
+going_to target core = record core { running = record core.running { at = target } }
+
+abbrev pub going_if : Bool → ℕ → Core → Core
+going_if test target core = cond test (going_to target core) (going_on core)
+
+-- the same with the number of a register in an argument slot
+abbrev pub passing : ℕ → ℕ → Core → Core
+passing from k core = going_on (record core { slots = slice_set core.slots k (register core from) })
+
+-- the number of a width at an address, little-endian, and the low bytes of a number
+abbrev pub number_at : Width → ℕ → List ℕ → ℕ
+number_at widths.W1 address memory = slice_index memory address
+number_at widths.W2 address memory = from_le_bytes w16 (slice_range memory address (address + 2))
+number_at widths.W4 address memory = from_le_bytes w32 (slice_range memory address (address + 4))
+number_at widths.W8 address memory = from_le_bytes w64 (slice_range memory address (address + 8))
+
+abbrev pub low_bytes : Width → ℕ → List ℕ
+low_bytes widths.W1 number = number % 2 ^ 8 ∷ []
+low_bytes widths.W2 number = to_le_bytes w16 (number % 2 ^ 16)
+low_bytes widths.W4 number = to_le_bytes w32 (number % 2 ^ 32)
+low_bytes widths.W8 number = to_le_bytes w64 number
+
+-- a register takes the number at an address, extended, where its bytes may be touched
+abbrev pub loading : Bool → Width → ℕ → ℕ → Core → Core
+loading signed width to address core =
+    cond (are_valid address (width_bytes width)) (giving to (extended (number_at width address core.memory) width signed) core)
+    (ending ends.BadAddress core)
+
+-- n bytes go to an address, where they may be touched
+abbrev pub storing : ℕ → ℕ → List ℕ → Core → Core
+storing address n bytes core =
+    cond (are_valid address n) (going_on (record core { memory = put address bytes core.memory })) (ending ends.BadAddress core)
+
+-- n bytes go from the one address to the other, as if through a copy, where all of them may be touched
+abbrev pub copying : ℕ → ℕ → ℕ → Core → Core
+copying to from n core =
+    cond (are_valid to n && are_valid from n)
+    (going_on (record core { memory = put to (bytes_at core.memory from n) core.memory }))
+    (ending ends.BadAddress core)
 
 -- a state with another core, and one that shows this too
 abbrev pub with_core : Core → State → State
@@ -126,12 +148,49 @@ memset_checked to d c n size s =
     (with_core (giving to d (record s.core { memory = put d (replicate n (c % 256)) s.core.memory })) s)
     (with_core (ending ends.BadAddress s.core) s))
 
--- a library call by its number, with that many argument slots. A call that the machine doesn't have yet does nothing
-abbrev pub host_call : ℕ → ℕ → ℕ → State → State
-host_call call count to s =
-    cond (call == memset_chk)
-    (memset_checked to (slot_value s.core 0) (slot_value s.core 1) (slot_value s.core 2) (slot_value s.core 3) s)
-    s
+-- what a library call does, checked or not, with that many argument slots and the register of its result. The calls that the
+-- machine doesn't have yet do nothing
+abbrev pub host_call : LibFn → Bool → ℕ → ℕ → State → State
+host_call calls.Exit false count to s = with_core (ending (ends.Exit (slot_value s.core 0 % 256)) s.core) s
+host_call calls.Exit true count to s = s
+host_call calls.Abort false count to s = with_core (ending ends.Abort s.core) s
+host_call calls.Abort true count to s = s
+host_call calls.Malloc checked count to s = s
+host_call calls.Calloc checked count to s = s
+host_call calls.Realloc checked count to s = s
+host_call calls.Free checked count to s = s
+host_call calls.Memcpy checked count to s = s
+host_call calls.Memmove checked count to s = s
+host_call calls.Mempcpy checked count to s = s
+host_call calls.Memset false count to s = s
+host_call calls.Memset true count to s =
+    memset_checked to (slot_value s.core 0) (slot_value s.core 1) (slot_value s.core 2) (slot_value s.core 3) s
+host_call calls.Bzero checked count to s = s
+host_call calls.ExplicitBzero checked count to s = s
+host_call calls.Memcmp checked count to s = s
+host_call calls.Strcpy checked count to s = s
+host_call calls.Stpcpy checked count to s = s
+host_call calls.Strncpy checked count to s = s
+host_call calls.Strcat checked count to s = s
+host_call calls.Strncat checked count to s = s
+host_call calls.Strlen checked count to s = s
+host_call calls.Strcmp checked count to s = s
+host_call calls.Strchr checked count to s = s
+host_call calls.Printf checked count to s = s
+host_call calls.Puts checked count to s = s
+host_call calls.Putchar checked count to s = s
+host_call calls.Dprintf checked count to s = s
+host_call calls.Sprintf checked count to s = s
+host_call calls.Snprintf checked count to s = s
+host_call calls.Read checked count to s = s
+host_call calls.Write checked count to s = s
+host_call calls.Getchar checked count to s = s
+host_call calls.Note checked count to s = s
+
+-- the call of a number. A number that names none stands in no image
+abbrev pub numbered_call : Option (LibFn × Bool) → ℕ → ℕ → State → State
+numbered_call None count to s = s
+numbered_call (Some call) count to s = host_call call.0 call.1 count to s
 
 -- the register that takes the result of a call, off the instruction that made it
 abbrev pub result_register : Option Instr → ℕ
@@ -140,21 +199,39 @@ result_register _ = 0
 
 -- a caller goes on with the result of its call
 abbrev pub resumed : Program → ℕ → Window → Window
-resumed program value caller = record caller { at = caller.at + 1; registers = slice_set caller.registers (result_register (slice_get program.code caller.at)) value }
+resumed program value caller =
+    let to = result_register (slice_get program.code caller.at) in
+    record caller { at = caller.at + 1; registers = slice_set caller.registers to value }
 
 -- the running call ends. The first call's end is the run's, by the low byte of its result
 abbrev pub returning : Program → ℕ → List Window → Core → Core
 returning program value [] core = ending (ends.Exit (value % 256)) core
 returning program value (caller ∷ callers) core = record core { running = resumed program value caller; callers = callers }
 
--- what each instruction does. An instruction that stands in no image so far does nothing
+-- what each instruction does. The instructions that the machine doesn't have yet do nothing
 abbrev pub perform : Program → Instr → State → State
 perform program (instr.Const to number) s = with_core (giving to number s.core) s
+perform program (instr.Move to from) s = with_core (giving to (register s.core from) s.core) s
 perform program (instr.Slot to offset) s = with_core (giving to (s.core.running.base + offset) s.core) s
-perform program (instr.Argument from k) s = with_core (going_on (record s.core { slots = slice_set s.core.slots k (register s.core from) })) s
+perform program (instr.Binary op to left right) s =
+    with_core (giving_if to (binary_value op (register s.core left) (register s.core right)) s.core) s
+perform program (instr.Divide op width to left right) s =
+    with_core (giving_if to (divide_value op width (register s.core left) (register s.core right)) s.core) s
+perform program (instr.Extend signed width to from) s = with_core (giving to (extended (register s.core from) width signed) s.core) s
+perform program (instr.Select to test from) s =
+    with_core (cond (register s.core test == 0) (going_on s.core) (giving to (register s.core from) s.core)) s
+perform program (instr.Load signed width to at) s = with_core (loading signed width to (register s.core at) s.core) s
+perform program (instr.Store width from at) s =
+    with_core (storing (register s.core at) (width_bytes width) (low_bytes width (register s.core from)) s.core) s
+perform program (instr.Copy to_at from_at count) s = with_core (copying (register s.core to_at) (register s.core from_at) count s.core) s
+perform program (instr.Zero at count) s = with_core (storing (register s.core at) count (replicate count 0) s.core) s
+perform program (instr.Jump target) s = with_core (going_to target s.core) s
+perform program (instr.JumpIfZero test target) s = with_core (going_if (register s.core test == 0) target s.core) s
+perform program (instr.JumpIfNotZero test target) s = with_core (going_if (not (register s.core test == 0)) target s.core) s
+perform program (instr.Argument from k) s = with_core (passing from k s.core) s
+perform program (instr.Call to function) s = s
 perform program (instr.Return from) s = with_core (returning program (register s.core from) s.core.callers s.core) s
-perform program (instr.Host to call count) s = host_call call count to s
-perform program _ s = s
+perform program (instr.Host to call count) s = numbered_call (call_of call) count to s
 
 -- the instruction that is there, if there is one
 abbrev pub performed : Program → Option Instr → State → State

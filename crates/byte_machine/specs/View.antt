@@ -1,22 +1,17 @@
--- How a machine is seen, and what its fields keep.
-use Rattle.std.specs.Prelude.{◌≡◌, ◌≤◌, ◌<◌, [], length, vec_len, Option, None, Some}
-use Rattle.fc_base.specs.declared.levels.End.{End}
-use Rattle.byte_machine.specs.Images.{function_at, end_of, IsCode}
-use Rattle.byte_machine.specs.State.{memory_size, stack_start, whole_heap, Core, Program}
-use Rattle.byte_machine.specs.Machines.{Loaded}
-use Rattle.byte_machine.specs.declared.machine.Stop.{Stop}
-use Rattle.byte_machine.specs.declared.machine.Stop.TheVariants as stops
+-- How a machine is seen, and what its fields keep. It serves the proofs alone.
+use Rattle.std.specs.Prelude.{◌≡◌, ◌≤◌, ◌<◌, [], length, vec_len}
+use Rattle.bm_image.specs.Images.{function_at, end_of, IsCode}
+use Rattle.bm_heap.specs.Heaps.{whole_heap}
+use Rattle.byte_machine.specs.State.{Core, Program}
+use Rattle.library_meaning.specs.Memory.{memory_size}
+use Rattle.byte_machine.specs.Machines.{Loaded, end_of_stop}
 use Rattle.byte_machine.specs.declared.machine.Machine.TheInside.{Inside}
 
--- the end of a run, where a stop is one
-abbrev pub end_of_stop : Option Stop → Option End
-end_of_stop (Some (stops.Ended end)) = Some end
-end_of_stop _ = None
-
+-- the machine's state, and what it is loaded with
 abbrev pub core_of : Inside → Core
 core_of m = record {
   memory = m.memory.items;
-  running = record { function = m.function; at = m.at; base = stack_start; registers = m.registers.items };
+  running = record { function = m.function; at = m.at; base = m.base; registers = m.registers.items };
   callers = [];
   slots = m.slots;
   heap = whole_heap;
@@ -36,5 +31,6 @@ pub record IsRunnable (m : Inside) : Type 0 where
   pub short : length m.code.items ≤ 4194304
   pub function : m.function < length m.functions.items
   pub behind : (function_at m.functions.items m.function).first ≤ m.at
-  pub before : m.at < end_of m.functions.items m.code.items m.function
+  pub before : m.at < end_of m.functions.items (length m.code.items) m.function
+  pub base : m.base ≤ memory_size
   pub registers : vec_len m.registers ≡ (function_at m.functions.items m.function).regs

@@ -1,9 +1,10 @@
 //! The plain byte-addressed machine: it opens an image, and runs it instruction by instruction.
 #![tactic(auto)]
 
-mod images;
+mod laws;
 mod machine;
+mod memory;
 mod opening;
 
-pub use images::{FnRec, Image};
+pub use laws::stopped_stays;
 pub use machine::{Machine, Step, Stop};

@@ -3,13 +3,15 @@
 ghost use Rattle.std.specs.Prelude.{◌≡◌, ℕ, ◌+◌, ◌≤◌, ◌<◌, ◌++◌, None, Some, length, vec_len, replicate, IfOk, slice_get};
 ghost use Rattle.std.specs.List.{flat_map};
 ghost use Rattle.std.specs.Option.{option_map};
-ghost use Rattle.byte_machine.specs.Images.{plain_image, IsImage};
-ghost use Rattle.byte_machine.specs.State.{memory_size, put};
-ghost use Rattle.byte_machine.specs.Opening.{ArgumentsFit, argument_words, argument_section, string_room, string_block, argv_address, first_registers, first_end, first_memory};
+ghost use Rattle.bm_image.specs.Images.{plain_image, IsImage};
+ghost use Rattle.library_meaning.specs.Memory.{memory_size, put};
+ghost use Rattle.run_meaning.specs.Worlds.{ArgumentsFit};
+ghost use Rattle.byte_machine.specs.Opening.{argument_words, argument_section, string_room, string_block, argv_address, first_registers, first_end, first_memory};
 
-use crate::images::{FnRec, Image};
-use crate::machine::{DATA_START, FIRST_VALID, MEMORY_SIZE, Stop};
+use crate::machine::{DATA_START, Stop};
+use bm_image::{FnRec, Image};
 use fc_base::{End, NoMemory, Words};
+use host_bytes::{FIRST_VALID, MEMORY_SIZE};
 use std::alloc::Global;
 
 /// The most that the frames and the weights of the live calls may sum to.

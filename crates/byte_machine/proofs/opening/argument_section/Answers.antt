@@ -19,7 +19,8 @@ loop-k-preserved c =
     let words = argument_words c.args.args.now in
     let more = rooms_more string_room words c.loop-k.k c.argument.result.now c.argument.ensures in
     record {
-      section = addresses_more (to_le_bytes w64) words c.loop-k.k c.loop-k.address (c.loop-k.address + c.room.result) c.argument.result.now c.loop-k.section.items _ _
+      section = addresses_more (to_le_bytes w64) words c.loop-k.k c.loop-k.address (c.loop-k.address + c.room.result)
+          c.argument.result.now c.loop-k.section.items _ _
           c.argument.ensures (ap (λ n. c.loop-k.address + n) c.room.ensures)
           (c.in_ok-extend_from_slice.ensures.items ∙ ap (λ l. c.loop-k.section.items ++ l) c.to_le_bytes.ensures)
           c.loop-k.invariant.section;
@@ -29,5 +30,6 @@ loop-k-preserved c =
 pub returns : goal.returns
 returns c =
     section_closed c.args.args.now c.in_ok-section.section.items c.loop-k.section.items _ _ c.in_ok-section.ensures
-    (addresses_done (to_le_bytes w64) (argument_words c.args.args.now) c.loop-k.k c.loop-k.address _ _ (omega (arith, c.count-k-end.ensures.total)) c.loop-k.invariant.section)
+    (addresses_done (to_le_bytes w64) (argument_words c.args.args.now) c.loop-k.k c.loop-k.address _ _
+    (omega (arith, c.count-k-end.ensures.total)) c.loop-k.invariant.section)
     c.to_le_bytes-2.ensures c.in_ok-extend_from_slice-2.ensures.items

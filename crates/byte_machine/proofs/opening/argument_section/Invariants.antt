@@ -1,7 +1,7 @@
 use Rattle.std.proofs.Common.{◌≡◌, ◌+◌, ◌++◌, drop, sum_by}
 use Rattle.std.specs.List.{flat_map}
 use Rattle.std.specs.Int.{to_le_bytes, w64}
-use Rattle.byte_machine.specs.State.{first_valid}
+use Rattle.library_meaning.specs.Memory.{first_valid}
 use Rattle.byte_machine.specs.Opening.{argument_words, string_room, argv_address, addresses}
 use Rattle.byte_machine.proofs.opening.argument_section.Given as goal
 

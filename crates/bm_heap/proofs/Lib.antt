@@ -1,0 +1,4 @@
+pub mod Blocks
+pub mod Edits
+pub mod Fitting
+pub mod Kept

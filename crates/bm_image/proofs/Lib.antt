@@ -1,0 +1,4 @@
+pub mod Accepted
+pub mod Judged
+pub mod Placed
+pub mod Spelled

@@ -1,0 +1,48 @@
+//! What library calls do.
+
+use crate::programs::end_of;
+use crate::values::assert_same;
+use bm_isa::Instr;
+use fc_base::{End, NoMemory};
+use std::alloc::Global;
+use std::test::Fail;
+
+/// How a program ends that makes a call with these numbers in the argument slots and returns its result.
+fn called(alloc: Global, call: u32, count: u32, args: [u64; 4]) -> Result<Option<End>, NoMemory> {
+    let [a, b, c, d] = args;
+    end_of(
+        alloc,
+        &[
+            Instr::Const { to: 0, number: a },
+            Instr::Const { to: 1, number: b },
+            Instr::Const { to: 2, number: c },
+            Instr::Const { to: 3, number: d },
+            Instr::Argument { from: 0, slot: 0 },
+            Instr::Argument { from: 1, slot: 1 },
+            Instr::Argument { from: 2, slot: 2 },
+            Instr::Argument { from: 3, slot: 3 },
+            Instr::Host { to: 0, call, count },
+            Instr::Return { from: 0 },
+        ],
+    )
+}
+
+const CALLS: &[(u32, u32, [u64; 4], Option<End>)] = &[
+    (0, 1, [300, 0, 0, 0], Some(End::Exit(44))),
+    (1, 0, [0, 0, 0, 0], Some(End::Abort)),
+    (73, 4, [5_242_888, 7, 4, 4], Some(End::Exit(8))),
+    (73, 4, [5_242_888, 7, 5, 4], Some(End::Overflow)),
+    (73, 4, [65_535, 7, 1, 1], Some(End::BadAddress)),
+    (73, 4, [0, 7, 0, 0], Some(End::Exit(0))),
+    (73, 3, [5_242_888, 7, 4, 4], None),
+    (95, 4, [0, 0, 0, 0], None),
+];
+
+#[test]
+fn calls_end(rt: HostRuntime) -> Result<(), Fail> {
+    for row in 0..CALLS.len() {
+        let (call, count, args, end) = CALLS[row];
+        assert_same(&rt, row, called(rt.alloc(), call, count, args)?, end);
+    }
+    Ok(())
+}
