@@ -1,0 +1,6 @@
+pub mod Memory
+pub mod OnBytes
+pub mod OnStreams
+pub mod Rows
+pub mod Scan
+pub mod Table
