@@ -1,2 +1,3 @@
-pub mod Phases
 pub mod Numbers
+pub mod Phases
+pub mod Serving

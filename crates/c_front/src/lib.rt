@@ -5,5 +5,5 @@ mod front;
 mod laws;
 
 pub use fort_forms::Form;
-pub use front::read_source;
-pub use laws::{numbers_are_lexed, one_front};
+pub use front::{read_form_of, read_source};
+pub use laws::{numbers_are_lexed, one_compiled, one_front};

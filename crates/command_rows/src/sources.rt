@@ -1,7 +1,7 @@
 //! Sources with their form or refusal, worked out by hand from C11 6.4 to 6.10 and from the rules of the subset.
 
 use crate::values::assert_same;
-use c_front::{Form, read_source};
+use c_front::{Form, read_form_of};
 use fc_base::{Fault, Level, NoMemory, Place, Refusal};
 use std::alloc::{AllocError, Global};
 use std::process::Abort;
@@ -37,7 +37,7 @@ fn push_source(
     level: Level,
 ) -> Result<(), AllocError> {
     if source.len() < 4_294_967_295 {
-        push_outcome(out, &read_source(alloc, source, level))
+        push_outcome(out, &read_form_of(alloc, source, level))
     } else {
         Ok(())
     }

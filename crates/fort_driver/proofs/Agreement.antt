@@ -1,5 +1,5 @@
 -- The image of a form is an image, and does what the form means.
-use Rattle.std.proofs.Common.{◌≡◌, ℕ, zero, suc, ◌+◌, ◌%◌, ◌<◌, ◌≤◌, ◌^◌, List, [], ◌∷◌, length, Bool, true, false, ◌||◌, nat_lt, max, cond, is_some, Option, None, Some, IsTrue, inl, inr, refl, sym, ◌∙◌, ap, subst, arith, replicate, lit≤, lit<, slice_get, zero-add, ◌-◌}
+use Rattle.std.proofs.Common.{◌≡◌, ℕ, zero, suc, ◌+◌, ◌%◌, ◌<◌, ◌≤◌, ◌^◌, List, [], ◌∷◌, length, Bool, true, false, ◌||◌, nat_lt, max, cond, Option, None, Some, IsTrue, inl, inr, refl, sym, ◌∙◌, ap, subst, arith, replicate, lit≤, lit<, zero-add, ◌-◌}
 use Rattle.std.specs.List.{list_all}
 use Rattle.std.proofs.lemmas.Bool.{lt-ltb, le-ltb, le-leb, ltb-false, cases_lt, and_from, and_parts, or_right}
 use Rattle.bm_isa.specs.declared.instructions.Instr.{Instr}
@@ -10,15 +10,19 @@ use Rattle.fc_base.specs.declared.levels.End.{End}
 use Rattle.fc_base.specs.declared.levels.End.TheVariants as ends
 use Rattle.fc_base.specs.declared.levels.Level.TheVariants as levels
 use Rattle.fc_base.specs.declared.levels.Mode.TheVariants as modes
-use Rattle.byte_machine.specs.Images.{IsImage, IsFunction, function_at, end_of, fits, ends_function, memset_chk, instruction_or}
-use Rattle.byte_machine.specs.State.{Core, State, Program, whole_heap, stack_start, stack_frames, memory_size, are_valid, ending, with_core, overflowing, put, performed, next, after, standing_of}
+use Rattle.bm_image.specs.Images.{IsImage, IsFunction, function_at, end_of, bounds_of, fits, ends_function, memset_chk, instruction_or}
+use Rattle.bm_heap.specs.Heaps.{whole_heap}
+use Rattle.byte_machine.specs.State.{Core, State, Program, stack_start, stack_frames, ending, with_core, overflowing, next, after, standing_of}
+use Rattle.library_meaning.specs.Memory.{memory_size, are_valid, put}
 use Rattle.byte_machine.specs.Opening.{begun, first_core, first_end, first_memory, program_of, rounded}
 use Rattle.byte_machine.proofs.Steps.{next_is}
 use Rattle.fort_forms.specs.declared.Form.{Form}
 use Rattle.fort_forms.specs.Forms.{IsForm}
-use Rattle.fort_driver.specs.Forms.{form_runs}
+use Rattle.run_meaning.specs.Worlds.{Input}
+use Rattle.byte_machine.proofs.Runs.{stopped_stays_lem}
+use Rattle.fort_driver.specs.Agreeing.{Agrees, Bracketed, Shaped, SourceFunction, written_frame}
+use Rattle.fort_driver.specs.Forms.{form_events, form_end, form_meaning, form_weight}
 use Rattle.fort_driver.specs.Compiled.{form_code, form_function, form_image}
-use Rattle.fort_driver.specs.Fort.{Agrees}
 
 -- a test of each instruction holds at each place
 tested_at : (p : Instr → Bool) (code : List Instr) → list_all p code ≡ true → (i : ℕ) (d : Instr) → i < length code → p (instruction_or d code i) ≡ true
@@ -60,13 +64,13 @@ abbrev array_set : Form → List ℕ → List ℕ
 array_set form memory = put stack_start (replicate form.count (form.byte % 256)) memory
 
 -- eight instructions give the call its arguments
-before_call : (form : Form) (memory slots input : List ℕ)
+before_call : (form : Form) (memory slots : List ℕ) (input : Input)
     → after (form_program form) 8 (begun (fresh memory slots) input) ≡ begun (standing memory 8 (given form []) (given form slots)) input
 unfolding after next
 before_call form memory slots input = refl
 
 -- the call, by its two tests
-at_call : (form : Form) (memory slots input : List ℕ) (exceeds valid : Bool) → nat_lt form.size form.count ≡ exceeds → are_valid stack_start form.count ≡ valid
+at_call : (form : Form) (memory slots : List ℕ) (input : Input) (exceeds valid : Bool) → nat_lt form.size form.count ≡ exceeds → are_valid stack_start form.count ≡ valid
     → after (form_program form) 9 (begun (fresh memory slots) input)
     ≡ cond exceeds (overflowing (begun (standing memory 8 (given form []) (given form slots)) input))
     (cond valid (begun (standing (array_set form memory) 9 (given form []) (given form slots)) input)
@@ -82,7 +86,7 @@ at_call form memory slots input exceeds valid first second =
     ∙ ap (λ t. cond exceeds (overflowing s) (cond t yes no)) second
 
 -- two more return the result
-returns : (form : Form) (memory slots input : List ℕ)
+returns : (form : Form) (memory slots : List ℕ) (input : Input)
     → next (form_program form) (next (form_program form) (begun (standing memory 9 (given form []) slots) input))
     ≡ begun (ending (ends.Exit (form.result % 256)) (standing memory 10 (form.result ∷ form.byte ∷ form.count ∷ form.size ∷ []) slots)) input
 unfolding next
@@ -106,16 +110,20 @@ opened form args ok = ap (λ o. record (fresh (first_memory (form_image form) ar
 abbrev stands : State → Shown × Standing
 stands s = (s.world.shown, standing_of s.core.stopped)
 
--- what the form shows, and how it stands, by whether the call exceeds
+-- what the form shows at level 3 without size lines, and how it stands
+abbrev pub form_shows : Form → Shown × Standing
+form_shows form = source_shown levels.Three false (form_events form) (form_end form)
+
+-- the same by whether the call exceeds
 abbrev by_test : Form → Bool → Shown × Standing
 by_test form exceeds =
-    source_shown levels.Three false (Asked form.call modes.M0 form.size (Some form.size) false ∷ Check form.call form.size exceeds ∷ []) (Ended (ends.Exit form.result))
+    source_shown levels.Three false (Asked form.call modes.M0 form.size (Some form.size) true false ∷ Check form.call form.size exceeds ∷ []) (Ended (ends.Exit form.result))
 
 -- within eleven instructions from this state on the machine has shown what the form shows, and stands so
 abbrev pub MeetsFrom : Form → State → Type 0
-MeetsFrom form s = (m : ℕ) × (m ≤ 11) × (stands (after (form_program form) m s) ≡ form_runs form 0)
+MeetsFrom form s = (m : ℕ) × (m ≤ 11) × (stands (after (form_program form) m s) ≡ form_shows form)
 
-fresh_meets : (form : Form) → IsForm form → (memory slots input : List ℕ) → MeetsFrom form (begun (fresh memory slots) input)
+fresh_meets : (form : Form) → IsForm form → (memory slots : List ℕ) (input : Input) → MeetsFrom form (begun (fresh memory slots) input)
 unfolding after
 fresh_meets form ok memory slots input = go (nat_lt form.size form.count) refl where
   go : (t : Bool) → nat_lt form.size form.count ≡ t → MeetsFrom form (begun (fresh memory slots) input)
@@ -131,34 +139,54 @@ fresh_meets form ok memory slots input = go (nat_lt form.size form.count) refl w
       )
 
 -- the machine of the form's image as it is opened, and its run
-abbrev pub form_begun : Form → List (List ℕ) → List ℕ → State
+abbrev pub form_begun : Form → List (List ℕ) → Input → State
 form_begun form args input = begun (first_core (form_image form) args) input
 
-pub meets : (form : Form) → IsForm form → (args : List (List ℕ)) (input : List ℕ) → MeetsFrom form (form_begun form args input)
+pub meets : (form : Form) → IsForm form → (args : List (List ℕ)) (input : Input) → MeetsFrom form (form_begun form args input)
 meets form ok args input =
     subst (λ core. MeetsFrom form (begun core input)) (sym (opened form args ok)) (fresh_meets form ok (first_memory (form_image form) args) (replicate 60 0) input)
 
 -- a form ends
-form_ends : (form : Form) → (end : End) × ((form_runs form 0).1 ≡ Ended end)
+form_ends : (form : Form) → (end : End) × ((form_shows form).1 ≡ Ended end)
 form_ends form = go (nat_lt form.size form.count) where
   go : (t : Bool) → (end : End) × ((by_test form t).1 ≡ Ended end)
   go true = (ends.Overflow, refl)
   go false = (ends.Exit form.result, refl)
 
+-- its frame passes no bound
+frame_as_counted : (form : Form) → IsForm form → written_frame (rounded (form.size + 1)) ≡ rounded (form.size + 1)
+frame_as_counted form ok =
+    let most = rounded_most (form.size + 1) (omega arith) in
+    ap (λ t. cond t 4194320 (rounded (form.size + 1))) (le-ltb 4194304 (rounded (form.size + 1)) (omega arith))
+
+abbrev as_function : ℕ → SourceFunction
+as_function frame = record { weight = form_weight; frame = frame }
+
+shaped : (form : Form) → IsForm form → Shaped (form_image form) (form_meaning form)
+shaped form ok = record {
+  records = ap (λ frame. as_function frame ∷ []) (sym (frame_as_counted form ok));
+  entry = refl;
+  small = λ k below. let e : 0 ≡ k = omega arith in
+      subst (λ k. end_of (form_function form ∷ []) 11 k ≤ (function_at (form_function form ∷ []) k).first + (function_at (form_function form ∷ []) k).weight) e (lit≤ tt);
+}
+
 -- the image does what the form means
-pub agrees : (form : Form) → IsForm form → Agrees (form_image form) form
+pub agrees : (form : Form) → IsForm form → Agrees (form_image form) (form_meaning form) levels.Three false
 agrees form ok = record {
-  one = refl;
-  small = lit≤ tt;
-  follows = λ args fit bytes input input_bytes.
+  shaped = shaped form ok;
+  follows = λ args input given.
       let run = meets form ok args input in
       let at_end = (form_ends form).1 in
       record {
         ends = λ n list end is. (run.0, (let most = run.1 in omega arith), run.2 ∙ is);
-        goes_on = λ n list is. let other : (form_runs form 0).1 ≡ Going = ap (λ r. r.1) is in absurd (cc);
-        until = λ n list kind place is. let other : (form_runs form 0).1 ≡ Undefined kind place = ap (λ r. r.1) is in absurd (cc);
+        goes_on = λ n list is. let other : (form_shows form).1 ≡ Going = ap (λ r. r.1) is in absurd (cc);
+        until = λ n list kind place is. let other : (form_shows form).1 ≡ Undefined kind place = ap (λ r. r.1) is in absurd (cc);
       };
 }
+
+-- the one size that it asks is the true one
+pub bracketed : (form : Form) → Bracketed (form_meaning form)
+bracketed form args input n _ = ((omega arith, λ known. refl), (tt, tt))
 
 -- one function, of eleven instructions
 pub image_ok : (form : Form) → IsForm form → IsImage (form_image form)
@@ -168,6 +196,7 @@ image_ok form ok = record {
   some_code = lit≤ tt;
   size = lit≤ tt;
   bytes = lit≤ tt;
+  are_bytes = λ k d below. absurd (omega arith);
   entry = lit< tt;
   entry_params = inl refl;
   code = record {
@@ -176,10 +205,10 @@ image_ok form ok = record {
     inside = λ k below. at_first k below (λ k. (function_at (form_function form ∷ []) k).first < 11) (lit< tt);
     bounds = λ k below. at_first k below (λ k. IsFunction (function_at (form_function form ∷ []) k)) bounded;
     fit = λ k i d below behind before.
-        at_first k below (λ k. i < end_of (form_function form ∷ []) (form_code form) k → IsTrue (fits (form_function form ∷ []) (form_code form) k (instruction_or d (form_code form) i)))
-        (tested_at (fits (form_function form ∷ []) (form_code form) 0) (form_code form) all_fit i d) before;
+        at_first k below (λ k. i < end_of (form_function form ∷ []) 11 k → IsTrue (fits (bounds_of (form_function form ∷ []) 11 k) (instruction_or d (form_code form) i)))
+        (tested_at (fits (bounds_of (form_function form ∷ []) 11 0)) (form_code form) all_fit i d) before;
     last = λ k i d below behind at_end.
-        at_first k below (λ k. i + 1 ≡ end_of (form_function form ∷ []) (form_code form) k → IsTrue (ends_function (instruction_or d (form_code form) i)))
+        at_first k below (λ k. i + 1 ≡ end_of (form_function form ∷ []) 11 k → IsTrue (ends_function (instruction_or d (form_code form) i)))
         (λ end. let here : 10 ≡ i = omega arith in subst (λ i. IsTrue (ends_function (instruction_or d (form_code form) i))) here refl) at_end;
   };
 } where
@@ -197,7 +226,7 @@ image_ok form ok = record {
     aligned = rounded_aligned (form.size + 1);
   }
 
-  all_fit : list_all (fits (form_function form ∷ []) (form_code form) 0) (form_code form) ≡ true
+  all_fit : list_all (fits (bounds_of (form_function form ∷ []) 11 0)) (form_code form) ≡ true
   all_fit =
       let frame : nat_lt 0 (max (rounded (form.size + 1)) 1) ≡ true = lt-ltb 0 (max (rounded (form.size + 1)) 1) (omega arith) in
       let byte : nat_lt form.byte (2 ^ 64) ≡ true = lt-ltb form.byte (2 ^ 64) (omega arith) in
@@ -208,8 +237,8 @@ image_ok form ok = record {
 
 -- a machine that has ended stays as it is
 next_stays : (p : Program) (s : State) (end : End) → s.core.stopped ≡ Some end → next p s ≡ s
-unfolding next
-next_stays p s end stopped = ap (λ o. cond (is_some o) s (performed p (slice_get p.code s.core.running.at) s)) stopped
+unfolding after
+next_stays p s end stopped = stopped_stays_lem p s end stopped 1
 
 stays_for : (p : Program) (m n : ℕ) (s : State) (end : End) → (after p m s).core.stopped ≡ Some end → after p (n + m) s ≡ after p m s
 unfolding after
@@ -230,15 +259,15 @@ stopped_of None end is = absurd (cc)
 stopped_of (Some e) end is = cc
 
 -- where the form ends so, its machine has ended so within eleven instructions, and has shown then what the form shows
-pub ends_within : (form : Form) → IsForm form → (args : List (List ℕ)) (input : List ℕ) (end : End) → (form_runs form 0).1 ≡ Ended end
+pub ends_within : (form : Form) → IsForm form → (args : List (List ℕ)) (input : Input) (end : End) → (form_shows form).1 ≡ Ended end
     → (m : ℕ) × (m ≤ 11) × ((after (form_program form) m (form_begun form args input)).core.stopped ≡ Some end)
-    × ((after (form_program form) m (form_begun form args input)).world.shown ≡ (form_runs form 0).0)
+    × ((after (form_program form) m (form_begun form args input)).world.shown ≡ (form_shows form).0)
 ends_within form ok args input end is =
     let run = meets form ok args input in
     (run.0, run.1, stopped_of _ end (ap (λ r. r.1) run.2 ∙ is), ap (λ r. r.0) run.2)
 
 -- so it has at each bound from eleven on
-pub ended_by : (form : Form) → IsForm form → (args : List (List ℕ)) (input : List ℕ) (end : End) → (form_runs form 0).1 ≡ Ended end → (k : ℕ) → 11 ≤ k
+pub ended_by : (form : Form) → IsForm form → (args : List (List ℕ)) (input : Input) (end : End) → (form_shows form).1 ≡ Ended end → (k : ℕ) → 11 ≤ k
     → (after (form_program form) k (form_begun form args input)).core.stopped ≡ Some end
 ended_by form ok args input end is k enough =
     let run = ends_within form ok args input end is in
@@ -246,9 +275,9 @@ ended_by form ok args input end is k enough =
     ap (λ s. s.core.stopped) (stays (form_program form) run.0 k (form_begun form args input) run.2 (omega arith)) ∙ run.2
 
 -- wherever its machine has ended, the form ends so, and the machine has shown what the form shows
-pub shown_then : (form : Form) → IsForm form → (args : List (List ℕ)) (input : List ℕ) (m : ℕ) (end : End)
+pub shown_then : (form : Form) → IsForm form → (args : List (List ℕ)) (input : Input) (m : ℕ) (end : End)
     → (after (form_program form) m (form_begun form args input)).core.stopped ≡ Some end
-    → ((form_runs form 0).1 ≡ Ended end) × ((after (form_program form) m (form_begun form args input)).world.shown ≡ (form_runs form 0).0)
+    → ((form_shows form).1 ≡ Ended end) × ((after (form_program form) m (form_begun form args input)).world.shown ≡ (form_shows form).0)
 shown_then form ok args input m end stopped =
     let p = form_program form in
     let s = form_begun form args input in

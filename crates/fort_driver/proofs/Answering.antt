@@ -1,32 +1,30 @@
--- The one answer that an outcome is, by the bytes under FILE.
-use Rattle.std.proofs.Common.{◌≡◌, ◌≢◌, ℕ, ◌≤◌, ◌<◌, List, [], length, Option, Some, Result, Ok, Err, refl, sym, ◌∙◌, ap, subst, inl, inr, arith, slice_index_or, lit≤}
+-- The one answer of `run`, by the bytes under FILE.
+use Rattle.std.proofs.Common.{◌≡◌, ℕ, ◌≤◌, ◌<◌, List, [], length, Bool, false, Option, Some, Result, Ok, Err, refl, sym, ◌∙◌, ap, subst, inl, inr, arith}
 use Rattle.fc_base.specs.Outside.{Files}
-use Rattle.run_meaning.specs.Runs.{Ended}
 use Rattle.fc_base.specs.declared.levels.End.{End}
+use Rattle.fc_base.specs.declared.levels.Level.{Level}
+use Rattle.fc_base.specs.declared.levels.Level.TheVariants.{Three}
+use Rattle.fc_base.specs.declared.refusals.Refusal.{Refusal}
+use Rattle.run_meaning.specs.Objects.{StoreState, Streams, Offers, Failed, NoneFailed, outside}
+use Rattle.run_meaning.specs.Runs.{Ended}
+use Rattle.run_meaning.specs.Worlds.{Input}
+use Rattle.run_meaning.specs.declared.streams.Stream.{Stream}
+use Rattle.run_meaning.specs.declared.streams.Stream.TheVariants.{Input as OfInput, Out as OfOut, Err as OfErr}
+use Rattle.fort_forms.specs.declared.Form.{Form}
+use Rattle.fort_forms.specs.Forms.{IsForm}
+use Rattle.c_front.proofs.Serving.{form_is, one}
 use Rattle.byte_machine.specs.State.{Core, Program}
 use Rattle.byte_machine.specs.Opening.{program_of, first_core}
 use Rattle.byte_machine.specs.Machines.{Loaded}
-use Rattle.fc_base.specs.declared.levels.Level.TheVariants.{Three}
-use Rattle.fc_base.specs.declared.refusals.Refusal.{Refusal}
-use Rattle.fort_forms.specs.declared.Form.{Form}
-use Rattle.fort_forms.specs.Forms.{IsForm}
-use Rattle.c_front.specs.Front.{Front}
-use Rattle.c_front.proofs.Phases.{form_is, one}
 use Rattle.fort_words.specs.declared.Outcome.{Outcome}
 use Rattle.fort_words.specs.declared.Outcome.TheVariants as outcomes
-use Rattle.fort_words.specs.Commands.{default_steps}
+use Rattle.fort_words.specs.Commands.{Command, level_of, sizes_of, steps_of, args_of, fetched_of, longest_of}
 use Rattle.fort_driver.specs.Compiled.{form_image}
-use Rattle.fort_driver.specs.Forms.{form_runs}
-use Rattle.fort_driver.specs.Fort.{Holds, IsRun, HasRun, Runs, Answers, StoodStill, longest_source}
-use Rattle.fort_driver.specs.Preparing.{IsReady, NotReady}
-use Rattle.fort_driver.proofs.Agreement.{ended_by, shown_then}
-
--- the words name one source and one image
-pub same_file : (words : List (List ℕ)) (a b c d : List ℕ) → IsRun words a b → IsRun words c d → a ≡ c
-same_file words a b c d first second = ap (λ l. slice_index_or l 1 []) (sym first.spelled ∙ second.spelled)
-
-pub same_image : (words : List (List ℕ)) (a b c d : List ℕ) → IsRun words a b → IsRun words c d → b ≡ d
-same_image words a b c d first second = ap (λ l. slice_index_or l 2 []) (sym first.spelled ∙ second.spelled)
+use Rattle.fort_driver.specs.Forms.{form_meaning}
+use Rattle.fort_driver.specs.Fort.{Holds, CompilesFor, ComesTo, OfMachine, OfCompiling, OfQuietRun, NotCompiled, KeepsCounts, StoodStill, EndsWithin, RunAnswers, RunPromise, fault_outcome, meaning_for}
+use Rattle.fort_driver.specs.Agreeing.{source_runs, end_bound, weight_of}
+use Rattle.fort_driver.specs.Preparing.{IsReady}
+use Rattle.fort_driver.proofs.Agreement.{ended_by, shown_then, form_shows}
 
 -- what is told is what was fetched
 same_source : (files : Option Files) (f : Files) (file source fetched : List ℕ) → files ≡ Some f → f file ≡ Some source → Holds files file fetched → fetched ≡ source
@@ -34,117 +32,200 @@ same_source files f file source fetched told here holds =
     let there : Holds (Some f) file fetched = subst (λ x. Holds x file fetched) told holds in
     cc (there, here)
 
--- the front's outcomes of one source
-one_refusal : (source : List ℕ) (a b : Refusal) → Front Three source (Err a) → Front Three source (Err b) → a ≡ b
-one_refusal source a b first second = let same : ◌≡◌ {A = Result Form Refusal} (Err a) (Err b) = one Three source first second in cc
+-- the outcomes of one source
+one_refusal : (command : Command) (source : List ℕ) (a b : Refusal) → CompilesFor command source (Err a) → CompilesFor command source (Err b) → a ≡ b
+one_refusal command source a b first second = let same : ◌≡◌ {A = Result Form Refusal} (Err a) (Err b) = one (level_of command) source first second in cc
 
-one_form : (source : List ℕ) (a b : Form) → Front Three source (Ok a) → Front Three source (Ok b) → a ≡ b
-one_form source a b first second = let same : ◌≡◌ {A = Result Form Refusal} (Ok a) (Ok b) = one Three source first second in cc
+one_form : (command : Command) (source : List ℕ) (a b : Form) → CompilesFor command source (Ok a) → CompilesFor command source (Ok b) → a ≡ b
+one_form command source a b first second = let same : ◌≡◌ {A = Result Form Refusal} (Ok a) (Ok b) = one (level_of command) source first second in cc
 
-not_both : (source : List ℕ) (form : Form) (refusal : Refusal) → Front Three source (Ok form) → Front Three source (Err refusal) → ⊥
-not_both source form refusal read refused = let same : ◌≡◌ {A = Result Form Refusal} (Ok form) (Err refusal) = one Three source read refused in absurd (cc)
+not_both : (command : Command) (source : List ℕ) (form : Form) (refusal : Refusal) → CompilesFor command source (Ok form) → CompilesFor command source (Err refusal) → ⊥
+not_both command source form refusal read broken =
+    let same : ◌≡◌ {A = Result Form Refusal} (Ok form) (Err refusal) = one (level_of command) source read broken in absurd (cc)
 
--- the outcomes before a run
-pub not_ready_answers : (outcome : Outcome) (file image_name source : List ℕ) (files files' : Option Files) (f : Files) (fetches fetches' keeps keeps' : List ℕ → ℕ)
-    → NotReady outcome file image_name files files' fetches fetches' keeps keeps' → files ≡ Some f → f file ≡ Some source
-    → StoodStill (fetches file) (fetches' file) → (none : Type 0) → (none → StoodStill (keeps image_name) (keeps' image_name)) → Answers outcome source none
-not_ready_answers outcomes.StoreFault file image_name source files files' f fetches fetches' keeps keeps' (inl failed) told here still none kept = absurd (still failed.1)
-not_ready_answers outcomes.StoreFault file image_name source files files' f fetches fetches' keeps keeps' (inr failed) told here still none kept =
-    let same = same_source files f file source failed.3.0 told here failed.3.2 in
-    let short : length source ≤ longest_source = subst (λ s. length s ≤ longest_source) same failed.3.3 in
-    let read = subst (λ s. Front Three s (Ok failed.3.1)) same failed.3.4 in
+-- ---- before a run
+
+pub not_compiled_answers : (outcome : Outcome) (command : Command) (source : List ℕ) (old new : StoreState) (x y : Streams) (f : Files)
+    → NotCompiled command outcome old new → old.files ≡ Some f → f (fetched_of command) ≡ Some source
+    → StoodStill (old.fetch_faults (fetched_of command)) (new.fetch_faults (fetched_of command))
+    → RunAnswers command outcome (outside old x) (outside new y) source
+not_compiled_answers outcomes.StoreFault command source old new x y f (inl failed) told here still = absurd (still failed.fetch)
+not_compiled_answers outcomes.StoreFault command source old new x y f (inr failed) told here still =
+    let form = failed.of_source.0 in
+    let fetched = failed.of_source.1.1 in
+    let same = same_source old.files f (fetched_of command) source failed.of_source.1.0 told here fetched.held in
+    let short : length source ≤ longest_of command = subst (λ s. length s ≤ longest_of command) same fetched.short in
+    let read = subst (λ s. CompilesFor command s (Ok form)) same failed.of_source.1.2 in
     record {
       too_long = λ long. absurd (omega arith);
-      refused = λ refusal _ front. absurd (not_both source failed.3.1 refusal read front);
-      accepted = λ _ _ _ all. absurd (kept all failed.1);
-      ended = λ _ _ _ _ _ all. absurd (kept all failed.1);
+      refused = λ refusal _ broken. absurd (not_both command source form refusal read broken);
+      accepted = λ _ _ _ all. absurd (all.keep failed.keep);
+      ended = λ _ _ _ _ _ all. absurd (all.keep failed.keep);
     }
-not_ready_answers outcomes.TooLong file image_name source files files' f fetches fetches' keeps keeps' long told here still none kept =
-    let same = same_source files f file source long.1.0 told here long.1.1 in
-    let over : longest_source < length source = subst (λ s. longest_source < length s) same long.1.2 in
+not_compiled_answers outcomes.TooLong command source old new x y f left told here still =
+    let same = same_source old.files f (fetched_of command) source left.0.0 told here left.0.1 in
+    let over : longest_of command < length source = subst (λ s. longest_of command < length s) same left.0.2 in
     record {
       too_long = λ _. inl refl;
-      refused = λ refusal short front. absurd (omega arith);
-      accepted = λ form short front all. absurd (omega arith);
-      ended = λ form end short front is all. absurd (omega arith);
+      refused = λ refusal short _. absurd (omega arith);
+      accepted = λ form short _ all. absurd (omega arith);
+      ended = λ form n end short _ all. absurd (omega arith);
     }
-not_ready_answers (outcomes.Refused refusal) file image_name source files files' f fetches fetches' keeps keeps' refused told here still none kept =
-    let same = same_source files f file source refused.1.0 told here refused.1.1 in
-    let short : length source ≤ longest_source = subst (λ s. length s ≤ longest_source) same refused.1.2 in
-    let read = subst (λ s. Front Three s (Err refusal)) same refused.1.3 in
+not_compiled_answers (outcomes.Refused refusal) command source old new x y f left told here still =
+    let fetched = left.0.1 in
+    let same = same_source old.files f (fetched_of command) source left.0.0 told here fetched.held in
+    let short : length source ≤ longest_of command = subst (λ s. length s ≤ longest_of command) same fetched.short in
+    let read = subst (λ s. CompilesFor command s (Err refusal)) same left.0.2 in
     record {
       too_long = λ long. absurd (omega arith);
-      refused = λ other _ front. inl (ap outcomes.Refused (one_refusal source refusal other read front));
-      accepted = λ form _ front all. absurd (not_both source form refusal front read);
-      ended = λ form end _ front is all. absurd (not_both source form refusal front read);
+      refused = λ other _ broken. inl (ap outcomes.Refused (one_refusal command source refusal other read broken));
+      accepted = λ form _ compiles all. absurd (not_both command source form refusal compiles read);
+      ended = λ form n end _ compiles all. absurd (not_both command source form refusal compiles read);
     }
-not_ready_answers outcomes.NoMemory file image_name source files files' f fetches fetches' keeps keeps' left told here still none kept = record {
+not_compiled_answers outcomes.NoMemory command source old new x y f left told here still = record {
   too_long = λ _. inr refl;
   refused = λ _ _ _. inr refl;
-  accepted = λ _ _ _ _. inr refl;
-  ended = λ _ _ _ _ _ _. inr refl;
+  accepted = λ _ _ _ _. tt;
+  ended = λ _ _ _ _ _ _ _ _. inr refl;
 }
-not_ready_answers _ file image_name source files files' f fetches fetches' keeps keeps' left told here still none kept = absurd left
+not_compiled_answers _ command source old new x y f left told here still = absurd left
+
+-- ---- of a run
 
 -- an outcome of a run is one
-pub has_run : (outcome : Outcome) (bound : ℕ) (program : Program) (core : Core) (i i' o o' e e' : Option (List ℕ))
-    → Runs outcome bound program core i i' o o' e e' → HasRun outcome
-has_run (outcomes.Ran end) bound program core i i' o o' e e' runs = tt
-has_run outcomes.OutOfSteps bound program core i i' o o' e e' runs = tt
-has_run outcomes.InputFault bound program core i i' o o' e e' runs = tt
-has_run outcomes.OutFault bound program core i i' o o' e e' runs = tt
-has_run outcomes.ErrFault bound program core i i' o o' e e' runs = tt
-has_run _ bound program core i i' o o' e e' runs = absurd runs
+pub of_machine : (outcome : Outcome) (bound : ℕ) (program : Program) (core : Core) (x y : Streams) → ComesTo outcome bound program core x y → OfMachine outcome
+of_machine (outcomes.Ran end) bound program core x y runs = tt
+of_machine outcomes.OutOfSteps bound program core x y runs = tt
+of_machine outcomes.InputFault bound program core x y runs = tt
+of_machine outcomes.OutFault bound program core x y runs = tt
+of_machine outcomes.ErrFault bound program core x y runs = tt
+of_machine _ bound program core x y runs = absurd runs
 
--- the form's run comes to its end where no object fails
-run_ends : (outcome : Outcome) (form : Form) (end : End) (i i' o o' e e' : Option (List ℕ)) → IsForm form → (form_runs form 0).1 ≡ Ended end
-    → Runs outcome default_steps (program_of (form_image form)) (first_core (form_image form) []) i i' o o' e e'
-    → outcome ≢ outcomes.InputFault → outcome ≢ outcomes.OutFault → outcome ≢ outcomes.ErrFault → outcome ≡ outcomes.Ran end
-run_ends (outcomes.Ran other) form end i i' o o' e e' ok is runs no_input no_out no_err =
+-- a stream's fault comes only where its count rose
+abbrev FailsBy : Outcome → Streams → Streams → Type 0
+FailsBy outcome x y = (which : Stream) → outcome ≡ fault_outcome which → Failed which x y
+
+quiet : (outcome : Outcome) (x y : Streams) → OfMachine outcome → FailsBy outcome x y → NoneFailed x y → OfQuietRun outcome
+quiet (outcomes.Ran end) x y of fails none = tt
+quiet outcomes.OutOfSteps x y of fails none = tt
+quiet outcomes.InputFault x y of fails none = absurd (none OfInput (fails OfInput refl))
+quiet outcomes.OutFault x y of fails none = absurd (none OfOut (fails OfOut refl))
+quiet outcomes.ErrFault x y of fails none = absurd (none OfErr (fails OfErr refl))
+quiet _ x y of fails none = absurd of
+
+-- a command at level 3 without sizes, for whose source the form ends so
+ends_so : (command : Command) (form : Form) (n : ℕ) (end : End) (x : Streams) → level_of command ≡ Three → sizes_of command ≡ false → EndsWithin command form n end x
+    → (input : Input) → Offers x input → (form_shows form).1 ≡ Ended end
+ends_so command form n end x level sizes is input offered =
+    subst (λ t. (source_runs (form_meaning form) Three t (args_of command) input n).1 ≡ Ended end) sizes
+    (subst (λ l. (source_runs (form_meaning form) l (sizes_of command) (args_of command) input n).1 ≡ Ended end) level (is input offered))
+
+-- a bound that leaves room for a source's end leaves room for the form's
+room : (form : Form) (n bound : ℕ) → end_bound (weight_of (form_meaning form)) n ≤ bound → 11 ≤ bound
+room form n bound enough = omega arith
+
+-- the form's run comes to its end where no stream fails
+run_ends : (outcome : Outcome) (args : List (List ℕ)) (bound : ℕ) (form : Form) (end : End) (x y : Streams) → IsForm form
+    → ((input : Input) → Offers x input → (form_shows form).1 ≡ Ended end) → 11 ≤ bound
+    → ComesTo outcome bound (program_of (form_image form)) (first_core (form_image form) args) x y → FailsBy outcome x y → NoneFailed x y → outcome ≡ outcomes.Ran end
+run_ends (outcomes.Ran other) args bound form end x y ok is enough runs fails none =
     let advances = runs.4 in
     let stopped = ap (λ k. k.stopped) advances.state ∙ runs.3 in
-    let reached = shown_then form ok [] advances.bytes runs.0 other stopped in
-    let same : Ended other ≡ Ended end = sym reached.0 ∙ is in
+    let reached = shown_then form ok args advances.input runs.0 other stopped in
+    let same : Ended other ≡ Ended end = sym reached.0 ∙ is advances.input advances.offered in
     ap outcomes.Ran (cc same)
-run_ends outcomes.OutOfSteps form end i i' o o' e e' ok is runs no_input no_out no_err =
+run_ends outcomes.OutOfSteps args bound form end x y ok is enough runs fails none =
     let advances = runs.2 in
     let running = ap (λ k. k.stopped) advances.state ∙ runs.1 in
-    let over = ended_by form ok [] advances.bytes end is default_steps (lit≤ tt) in
+    let over = ended_by form ok args advances.input end (is advances.input advances.offered) bound enough in
     absurd (cc (running, over))
-run_ends outcomes.InputFault form end i i' o o' e e' ok is runs no_input no_out no_err = absurd (no_input refl)
-run_ends outcomes.OutFault form end i i' o o' e e' ok is runs no_input no_out no_err = absurd (no_out refl)
-run_ends outcomes.ErrFault form end i i' o o' e e' ok is runs no_input no_out no_err = absurd (no_err refl)
-run_ends _ form end i i' o o' e e' ok is runs no_input no_out no_err = absurd runs
+run_ends outcomes.InputFault args bound form end x y ok is enough runs fails none = absurd (none OfInput (fails OfInput refl))
+run_ends outcomes.OutFault args bound form end x y ok is enough runs fails none = absurd (none OfOut (fails OfOut refl))
+run_ends outcomes.ErrFault args bound form end x y ok is enough runs fails none = absurd (none OfErr (fails OfErr refl))
+run_ends _ args bound form end x y ok is enough runs fails none = absurd runs
 
 -- the outcomes of a run
-pub ready_answers : (outcome : Outcome) (file image_name source : List ℕ) (files files' : Option Files) (f : Files) (machine : Loaded) (i i' o o' e e' : Option (List ℕ))
-    → IsReady file image_name files files' machine → Runs outcome default_steps machine.program machine.core i i' o o' e e'
-    → files ≡ Some f → f file ≡ Some source → (none : Type 0)
-    → (none → (outcome ≢ outcomes.InputFault) × (outcome ≢ outcomes.OutFault) × (outcome ≢ outcomes.ErrFault)) → Answers outcome source none
-ready_answers outcome file image_name source files files' f machine i i' o o' e e' ready runs told here none kept =
-    let form = ready.image_kept.form in
-    let same = same_source files f file source ready.image_kept.source told here ready.image_kept.fetched in
-    let short : length source ≤ longest_source = subst (λ s. length s ≤ longest_source) same ready.image_kept.short in
-    let read = subst (λ s. Front Three s (Ok form)) same ready.image_kept.is_form in
-    let program = ready.program ∙ ap program_of ready.compiled in
-    let core = ready.core ∙ ap (λ image. first_core image []) ready.compiled in
-    let form_run = subst (λ k. Runs outcome default_steps (program_of (form_image form)) k i i' o o' e e') core
-    (subst (λ p. Runs outcome default_steps p machine.core i i' o o' e e') program runs) in
+ready_answers : (outcome : Outcome) (command : Command) (source : List ℕ) (old new : StoreState) (x y : Streams) (f : Files) (machine : Loaded)
+    → IsReady command old new machine → ComesTo outcome (steps_of command) machine.program machine.core x y → FailsBy outcome x y
+    → old.files ≡ Some f → f (fetched_of command) ≡ Some source → RunAnswers command outcome (outside old x) (outside new y) source
+ready_answers outcome command source old new x y f machine ready runs fails told here =
+    let form = ready.image_kept.compiled in
+    let compiled = ready.image_kept.of_source in
+    let same = same_source old.files f (fetched_of command) source compiled.0 told here compiled.1.held in
+    let short : length source ≤ longest_of command = subst (λ s. length s ≤ longest_of command) same compiled.1.short in
+    let read = subst (λ s. CompilesFor command s (Ok form)) same compiled.2 in
+    let args = args_of command in
+    let program = ready.program ∙ ap program_of ready.made in
+    let core = ready.core ∙ ap (λ image. first_core image args) ready.made in
+    let form_run = subst (λ k. ComesTo outcome (steps_of command) (program_of (form_image form)) k x y) core
+    (subst (λ p. ComesTo outcome (steps_of command) p machine.core x y) program runs) in
     record {
       too_long = λ long. absurd (omega arith);
-      refused = λ refusal _ front. absurd (not_both source form refusal read front);
-      accepted = λ _ _ _ _. inl (has_run outcome default_steps machine.program machine.core i i' o o' e e' runs);
-      ended = λ other end _ front is all.
-          let mine : (form_runs form 0).1 ≡ Ended end = subst (λ x. (form_runs x 0).1 ≡ Ended end) (one_form source other form front read) is in
-          inl (run_ends outcome form end i i' o o' e e' (form_is read) mine form_run (kept all).0 (kept all).1 (kept all).2);
+      refused = λ refusal _ broken. absurd (not_both command source form refusal read broken);
+      accepted = λ _ _ _ all. quiet outcome x y (of_machine outcome (steps_of command) machine.program machine.core x y runs) fails all.streams;
+      ended = λ other n end _ compiles all is enough.
+          let one = one_form command source other form compiles read in
+          let mine : EndsWithin command form n end x = subst (λ o. EndsWithin command o n end x) one is in
+          inl (run_ends outcome args (steps_of command) form end x y (form_is read) (ends_so command form n end x ready.level ready.sizes mine)
+          (room other n (steps_of command) enough) form_run fails all.streams);
     }
 
--- neither kind of outcome is Usage
-pub runs_not_usage : (outcome : Outcome) (bound : ℕ) (program : Program) (core : Core) (i i' o o' e e' : Option (List ℕ))
-    → Runs outcome bound program core i i' o o' e e' → outcome ≡ outcomes.Usage → ⊥
-runs_not_usage outcome bound program core i i' o o' e e' runs is = subst (λ x. Runs x bound program core i i' o o' e e') is runs
+-- ---- the promise
 
-pub not_ready_not_usage : (outcome : Outcome) (file image_name : List ℕ) (files files' : Option Files) (fetches fetches' keeps keeps' : List ℕ → ℕ)
-    → NotReady outcome file image_name files files' fetches fetches' keeps keeps' → outcome ≡ outcomes.Usage → ⊥
-not_ready_not_usage outcome file image_name files files' fetches fetches' keeps keeps' left is =
-    subst (λ x. NotReady x file image_name files files' fetches fetches' keeps keeps') is left
+-- neither kind of outcome is one of the other kind
+pub never_both : (outcome : Outcome) → OfMachine outcome → OfCompiling outcome → ⊥
+never_both (outcomes.Ran end) of other = other
+never_both outcomes.OutOfSteps of other = other
+never_both outcomes.InputFault of other = other
+never_both outcomes.OutFault of other = other
+never_both outcomes.ErrFault of other = other
+never_both _ of other = of
+
+of_compiling : (outcome : Outcome) (command : Command) (old new : StoreState) → NotCompiled command outcome old new → OfCompiling outcome
+of_compiling outcomes.StoreFault command old new left = tt
+of_compiling outcomes.TooLong command old new left = tt
+of_compiling (outcomes.Refused refusal) command old new left = tt
+of_compiling outcomes.NoMemory command old new left = tt
+of_compiling _ command old new left = absurd left
+
+no_fault : (outcome : Outcome) → OfCompiling outcome → (which : Stream) → outcome ≡ fault_outcome which → ⊥
+no_fault outcome of OfInput is = subst OfCompiling is of
+no_fault outcome of OfOut is = subst OfCompiling is of
+no_fault outcome of OfErr is = subst OfCompiling is of
+
+counts_as : {P Q : Type 0} (command : Command) (old new : StoreState) → (P → Q) → KeepsCounts command old new P → KeepsCounts command old new Q
+counts_as command old new through counts = record {
+  fetch_of = counts.fetch_of;
+  keep_of = counts.keep_of;
+  no_failure = λ none. counts.no_failure (λ failed. none (through failed));
+}
+
+pub ready_promise : {P : Type 0} (outcome : Outcome) (command : Command) (old new : StoreState) (x y : Streams) (machine : Loaded) (bound : ℕ) → bound ≡ steps_of command
+    → IsReady command old new machine → ComesTo outcome bound machine.program machine.core x y → FailsBy outcome x y
+    → KeepsCounts command old new P → (P → ⊥) → RunPromise command outcome (outside old x) (outside new y)
+ready_promise outcome command old new x y machine bound is_bound ready ran fails counts none =
+    let runs = subst (λ n. ComesTo outcome n machine.program machine.core x y) is_bound ran in
+    let of = of_machine outcome (steps_of command) machine.program machine.core x y runs in
+    let on_image = subst (λ k. ComesTo outcome (steps_of command) (program_of ready.image) k x y) ready.core
+    (subst (λ p. ComesTo outcome (steps_of command) p machine.core x y) ready.program runs) in
+    record {
+      comes = inl of;
+      ran = λ _. (ready.image, ready.image_kept, on_image);
+      not_run = λ other. absurd (never_both outcome of other);
+      counts = counts_as command old new (λ p. absurd (none p)) counts;
+      failed = fails;
+      answers = λ source f told here still. ready_answers outcome command source old new x y f machine ready runs fails told here;
+    }
+
+pub not_ready_promise : {P : Type 0} (outcome : Outcome) (command : Command) (old new : StoreState) (x : Streams) → NotCompiled command outcome old new
+    → KeepsCounts command old new P → (P → outcome ≡ outcomes.StoreFault) → RunPromise command outcome (outside old x) (outside new x)
+not_ready_promise outcome command old new x left counts through =
+    let of = of_compiling outcome command old new left in
+    record {
+      comes = inr of;
+      ran = λ other. absurd (never_both outcome other of);
+      not_run = λ _. left;
+      counts = counts_as command old new through counts;
+      failed = λ which is. absurd (no_fault outcome of which is);
+      answers = λ source f told here still. not_compiled_answers outcome command source old new x x f left told here still;
+    }

@@ -1,11 +1,12 @@
 -- The image that a form is compiled to.
-use Rattle.std.specs.Prelude.{ℕ, ◌+◌, List, [], ◌∷◌}
+use Rattle.std.specs.Prelude.{◌+◌, List, [], ◌∷◌}
 use Rattle.bm_isa.specs.declared.instructions.Instr.{Instr}
 use Rattle.bm_isa.specs.declared.instructions.Instr.TheVariants as instr
-use Rattle.byte_machine.specs.Images.{PlainImage, memset_chk}
+use Rattle.bm_image.specs.Images.{PlainImage, memset_chk}
 use Rattle.byte_machine.specs.Opening.{rounded}
-use Rattle.byte_machine.specs.declared.images.FnRec.{FnRec}
+use Rattle.bm_image.specs.declared.images.FnRec.{FnRec}
 use Rattle.fort_forms.specs.declared.Form.{Form}
+use Rattle.fort_driver.specs.Forms.{form_weight}
 
 -- the checked call with the array's place, the byte, the count and the array's size, then the result
 abbrev pub form_code : Form → List Instr
@@ -13,10 +14,6 @@ form_code form =
     instr.Slot 0 0 ∷ instr.Const 1 form.byte ∷ instr.Const 2 form.count ∷ instr.Const 3 form.size
     ∷ instr.Argument 0 0 ∷ instr.Argument 1 1 ∷ instr.Argument 2 2 ∷ instr.Argument 3 3
     ∷ instr.Host 0 memset_chk 4 ∷ instr.Const 0 form.result ∷ instr.Return 0 ∷ []
-
--- the weight of the form's main: nine nodes, a return among the joins, no register variable
-abbrev pub form_weight : ℕ
-form_weight = 672
 
 -- main keeps the array in its frame
 abbrev pub form_function : Form → FnRec

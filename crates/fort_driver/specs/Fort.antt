@@ -1,151 +1,156 @@
--- What the top call promises. This project's own.
-use Rattle.std.specs.Prelude.{◌≡◌, ◌≢◌, ℕ, ◌+◌, ◌*◌, ◌≤◌, ◌<◌, ◌^◌, List, length, Option, None, Some, Ok, Err, ⊤, ◌⊎◌}
-use Rattle.std.specs.List.{AllByRecursion}
+-- What the top call promises, by the command and the outcome. This project's own.
+use Rattle.std.specs.Prelude.{◌≡◌, ◌≢◌, ℕ, ◌≤◌, ◌<◌, List, length, Option, None, Some, Result, Ok, Err, ⊤, ◌⊎◌}
 use Rattle.fc_base.specs.Outside.{Files, IfTold, Puts, KeepsOthers, Rose}
-use Rattle.run_meaning.specs.Runs.{Ended, Follows}
+use Rattle.run_meaning.specs.Objects.{StoreState, Streams, Outside, Offers, Failed, NoneFailed}
+use Rattle.run_meaning.specs.Runs.{Ended}
+use Rattle.run_meaning.specs.Worlds.{Input}
+use Rattle.run_meaning.specs.declared.streams.Stream.{Stream}
+use Rattle.run_meaning.specs.declared.streams.Stream.TheVariants.{Input as OfInput, Out as OfOut, Err as OfErr}
 use Rattle.fc_base.specs.declared.levels.End.{End}
-use Rattle.fc_base.specs.declared.levels.Level.TheVariants.{Three}
 use Rattle.fc_base.specs.declared.refusals.Refusal.{Refusal}
-use Rattle.fort_forms.specs.declared.Form.{Form}
-use Rattle.c_front.specs.Front.{Front}
-use Rattle.byte_machine.specs.Images.{PlainImage, function_at}
-use Rattle.byte_machine.specs.Opening.{ArgumentsFit, first_core, machine_runs, program_of}
+use Rattle.c_front.specs.Served.{Compiled, Compiles}
+use Rattle.bm_image.specs.Images.{PlainImage}
+use Rattle.bm_image.specs.Spelling.{SpellsImage}
+use Rattle.byte_machine.specs.Opening.{first_core, program_of}
 use Rattle.byte_machine.specs.Machines.{Advances, FailsAfter}
 use Rattle.byte_machine.specs.State.{Core, Program}
 use Rattle.fort_words.specs.declared.Outcome.{Outcome}
 use Rattle.fort_words.specs.declared.Outcome.TheVariants as outcomes
-use Rattle.fort_words.specs.Commands.{Means, run_of}
-use Rattle.fort_driver.specs.Forms.{form_runs}
-use Rattle.bm_image.specs.Spelling.{SpellsImage}
+use Rattle.fort_words.specs.Commands.{Command, Build, Exec, Run, Sites, Mean, Gen, image_of, level_of, sizes_of, steps_of, args_of}
+use Rattle.fort_words.specs.Commands.{fetched_of, longest_of}
+use Rattle.fort_driver.specs.Agreeing.{Meaning, Agrees, Bracketed, source_runs, end_bound, weight_of}
+use Rattle.fort_driver.specs.Forms.{meaning_of}
 
--- the longest source, in bytes
-abbrev pub longest_source : ℕ
-longest_source = 1048576
+-- ---- the source of a command
 
--- the weight that bounds an image's run: that of its one function
-abbrev pub image_weight : PlainImage → ℕ
-image_weight image = (function_at image.functions 0).weight
+-- what a source comes to for a command, and what one means to it that is compiled
+abbrev pub CompilesFor : Command → List ℕ → Result Compiled Refusal → Type 0
+CompilesFor command = Compiles (level_of command)
 
--- within how many instructions an image of weight w ends that ends after n steps of its source
-abbrev pub end_bound : ℕ → ℕ → ℕ
-end_bound w n = 3 * w * w * (n + 1)
-
--- each number is a byte
-abbrev pub AreBytes : List ℕ → Type 0
-AreBytes bytes = AllByRecursion (λ byte. byte < 2 ^ 8) bytes
-
--- the image does what the form means, by itself: it has one function, of at most its weight in instructions, and on all
--- arguments and input its machine follows the form
-pub record Agrees (image : PlainImage) (form : Form) : Type 0 where
-  pub one : length image.functions ≡ 1
-  pub small : length image.code ≤ image_weight image
-  pub follows : (args : List (List ℕ)) → ArgumentsFit args → AllByRecursion AreBytes args → (input : List ℕ) → AreBytes input
-      → Follows (end_bound (image_weight image)) (machine_runs image args input) (form_runs form)
-
--- the words are `run FILE IMAGE`
-abbrev pub IsRun : List (List ℕ) → List ℕ → List ℕ → Type 0
-IsRun words file image_name = Means words (run_of file image_name)
+abbrev pub meaning_for : Command → Compiled → Meaning
+meaning_for command = meaning_of (level_of command)
 
 -- these bytes stand under the name, where the store tells them
 abbrev pub Holds : Option Files → List ℕ → List ℕ → Type 0
 Holds files name bytes = IfTold files (λ f. f name ≡ Some bytes)
 
--- the store is the old one with an image under IMAGE, spelled in bytes, that agrees with the form of the bytes that
--- were fetched under FILE: what the front gives of them at level 3
-pub record KeepsImage (file image_name : List ℕ) (files files' : Option Files) (image : PlainImage) : Type 0 where
-  pub source : List ℕ
-  pub fetched : Holds files file source
-  pub short : length source ≤ longest_source
-  pub form : Form
-  pub is_form : Front Three source (Ok form)
-  pub bytes : List ℕ
-  pub kept : Puts image_name bytes files files'
-  pub spelled : SpellsImage bytes image
-  pub agrees : Agrees image form
+-- these bytes were fetched: under FILE, or under IMAGE by `exec`
+pub record IsFetched (command : Command) (old : StoreState) (source : List ℕ) : Type 0 where
+  pub held : Holds old.files (fetched_of command) source
+  pub short : length source ≤ longest_of command
 
--- that of a command
-pub record Keeps (words : List (List ℕ)) (files files' : Option Files) (image : PlainImage) : Type 0 where
-  pub file : List ℕ
-  pub image_name : List ℕ
-  pub command : IsRun words file image_name
-  pub image_kept : KeepsImage file image_name files files' image
+-- they are compiled, from this, or refused so: by the first rule that they break, where they break it
+abbrev pub IsCompiled : Command → StoreState → Compiled → Type 0
+IsCompiled command old compiled = (source : List ℕ) × IsFetched command old source × CompilesFor command source (Ok compiled)
+
+abbrev pub IsRefused : Command → StoreState → Refusal → Type 0
+IsRefused command old refusal = (source : List ℕ) × IsFetched command old source × CompilesFor command source (Err refusal)
+
+-- they are too many
+abbrev pub IsTooLong : Command → StoreState → Type 0
+IsTooLong command old = (source : List ℕ) × Holds old.files (fetched_of command) source × (longest_of command < length source)
+
+-- ---- what is kept, and what ran
+
+-- the store is the old one with an image under IMAGE, spelled in bytes, which agrees with what the source means that was
+-- fetched under FILE; and the sizes that this source asks bound the true ones
+pub record KeepsImage (command : Command) (old new : StoreState) (image : PlainImage) : Type 0 where
+  pub compiled : Compiled
+  pub of_source : IsCompiled command old compiled
+  pub bytes : List ℕ
+  pub kept : Puts (image_of command) bytes old.files new.files
+  pub spelled : SpellsImage bytes image
+  pub agrees : Agrees image (meaning_for command compiled) (level_of command) (sizes_of command)
+  pub bracketed : Bracketed (meaning_for command compiled)
 
 -- some image was kept
-abbrev pub KeepsSome : List (List ℕ) → Option Files → Option Files → Type 0
-KeepsSome words files files' = (image : PlainImage) × Keeps words files files' image
+abbrev pub KeepsSome : Command → StoreState → StoreState → Type 0
+KeepsSome command old new = (image : PlainImage) × KeepsImage command old new image
 
--- what an outcome says of a machine that began so: it ended within the bound on instructions, or runs at the bound, or an
--- object failed in the instruction after m, which reaches it. No other outcome comes from a run
-abbrev pub Runs : Outcome → (bound : ℕ) → Program → Core → (input input' out out' err err' : Option (List ℕ)) → Type 0
-Runs (outcomes.Ran end) bound program core input input' out out' err err' =
-    (m : ℕ) × (core' : Core) × (m ≤ bound) × (core'.stopped ≡ Some end) × Advances m program core core' input input' out out' err err'
-Runs outcomes.OutOfSteps bound program core input input' out out' err err' =
-    (core' : Core) × (core'.stopped ≡ None) × Advances bound program core core' input input' out out' err err'
-Runs outcomes.InputFault bound program core input input' out out' err err' =
-    (m : ℕ) × (m < bound) × FailsAfter m 0 program core input input' out out' err err'
-Runs outcomes.OutFault bound program core input input' out out' err err' =
-    (m : ℕ) × (m < bound) × FailsAfter m 1 program core input input' out out' err err'
-Runs outcomes.ErrFault bound program core input input' out out' err err' =
-    (m : ℕ) × (m < bound) × FailsAfter m 2 program core input input' out out' err err'
-Runs _ bound program core input input' out out' err err' = ⊥
+-- a stream failed in the instruction after m, for some m below the bound
+abbrev pub FailsWithin : Stream → (bound : ℕ) → Program → Core → Streams → Streams → Type 0
+FailsWithin which bound program core old new = (m : ℕ) × (m < bound) × FailsAfter which m program core old new
 
--- the same of the machine on an image with these arguments
-abbrev pub Ran : Outcome → (bound : ℕ) → PlainImage → List (List ℕ) → (input input' out out' err err' : Option (List ℕ)) → Type 0
-Ran outcome bound image args input input' out out' err err' =
-    Runs outcome bound (program_of image) (first_core image args) input input' out out' err err'
+-- what an outcome says of a machine that began so: it ended within the bound on instructions, or runs at the bound, or a
+-- stream failed in an instruction that reaches it. No other outcome comes from a run
+abbrev pub ComesTo : Outcome → (bound : ℕ) → Program → Core → Streams → Streams → Type 0
+ComesTo (outcomes.Ran end) bound program core old new =
+    (m : ℕ) × (core' : Core) × (m ≤ bound) × (core'.stopped ≡ Some end) × Advances m program core core' old new
+ComesTo outcomes.OutOfSteps bound program core old new = (core' : Core) × (core'.stopped ≡ None) × Advances bound program core core' old new
+ComesTo outcomes.InputFault bound program core old new = FailsWithin OfInput bound program core old new
+ComesTo outcomes.OutFault bound program core old new = FailsWithin OfOut bound program core old new
+ComesTo outcomes.ErrFault bound program core old new = FailsWithin OfErr bound program core old new
+ComesTo _ bound program core old new = ⊥
 
--- the outcomes that come once the machine has begun
-abbrev pub HasRun : Outcome → Type 0
-HasRun (outcomes.Ran end) = ⊤
-HasRun outcomes.OutOfSteps = ⊤
-HasRun outcomes.InputFault = ⊤
-HasRun outcomes.OutFault = ⊤
-HasRun outcomes.ErrFault = ⊤
-HasRun _ = ⊥
+-- the same of the machine on an image, with the command's bound and arguments
+abbrev pub Ran : Command → Outcome → PlainImage → Streams → Streams → Type 0
+Ran command outcome image old new = ComesTo outcome (steps_of command) (program_of image) (first_core image (args_of command)) old new
 
--- the outcomes that come before
-abbrev pub HasNotRun : Outcome → Type 0
-HasNotRun outcomes.Usage = ⊤
-HasNotRun outcomes.StoreFault = ⊤
-HasNotRun outcomes.TooLong = ⊤
-HasNotRun (outcomes.Refused refusal) = ⊤
-HasNotRun outcomes.NoMemory = ⊤
-HasNotRun _ = ⊥
+-- ---- which outcomes come
 
--- the bytes under FILE are the form
-pub record IsForms (words : List (List ℕ)) (files : Option Files) : Type 0 where
-  pub file : List ℕ
-  pub image_name : List ℕ
-  pub command : IsRun words file image_name
-  pub source : List ℕ
-  pub fetched : Holds files file source
-  pub short : length source ≤ longest_source
-  pub form : Form
-  pub is_form : Front Three source (Ok form)
+-- the outcome at a fault of a stream
+abbrev pub fault_outcome : Stream → Outcome
+fault_outcome OfInput = outcomes.InputFault
+fault_outcome OfOut = outcomes.OutFault
+fault_outcome OfErr = outcomes.ErrFault
 
--- the store failed: by a fetch of FILE, which changes nothing but that count, or by a keep of IMAGE for a source that is the
--- form, which changes that count, and after which the bytes under IMAGE alone are unknown
-abbrev pub StoreFailed : List (List ℕ) → Option Files → Option Files → (fetches fetches' keeps keeps' : List ℕ → ℕ) → Type 0
-StoreFailed words files files' fetches fetches' keeps keeps' =
-    (file image_name : List ℕ) → IsRun words file image_name →
-    ((files' ≡ files) × Rose (fetches file) (fetches' file) × (keeps' image_name ≡ keeps image_name))
-    ⊎ (KeepsOthers image_name files files' × Rose (keeps image_name) (keeps' image_name) × (fetches' file ≡ fetches file) × IsForms words files)
+-- the outcomes of a machine that has begun
+abbrev pub OfMachine : Outcome → Type 0
+OfMachine (outcomes.Ran end) = ⊤
+OfMachine outcomes.OutOfSteps = ⊤
+OfMachine outcomes.InputFault = ⊤
+OfMachine outcomes.OutFault = ⊤
+OfMachine outcomes.ErrFault = ⊤
+OfMachine _ = ⊥
 
--- no count of the store but those of a fetch of FILE and a keep of IMAGE changes, and where the store didn't fail none
-pub record KeepsCounts (words : List (List ℕ)) (result : Outcome) (fetches fetches' keeps keeps' : List ℕ → ℕ) : Type 0 where
-  pub fetch_of : (name : List ℕ) → ((image_name : List ℕ) → IsRun words name image_name → ⊥) → fetches' name ≡ fetches name
-  pub keep_of : (name : List ℕ) → ((file : List ℕ) → IsRun words file name → ⊥) → keeps' name ≡ keeps name
-  pub no_failure : result ≢ outcomes.StoreFault → (name : List ℕ) → (fetches' name ≡ fetches name) × (keeps' name ≡ keeps name)
+-- the outcomes of a source that wasn't compiled, or not kept
+abbrev pub OfCompiling : Outcome → Type 0
+OfCompiling outcomes.StoreFault = ⊤
+OfCompiling outcomes.TooLong = ⊤
+OfCompiling (outcomes.Refused refusal) = ⊤
+OfCompiling outcomes.NoMemory = ⊤
+OfCompiling _ = ⊥
 
--- the bytes under FILE are too many
-abbrev pub IsTooLong : List (List ℕ) → Option Files → Type 0
-IsTooLong words files =
-    (file image_name source : List ℕ) × IsRun words file image_name × Holds files file source × (longest_source < length source)
+-- the outcomes with which a command, or words that are none, touched no stream
+abbrev pub HasNotRun : Option Command → Outcome → Type 0
+HasNotRun None outcome = outcome ≡ outcomes.Usage
+HasNotRun (Some (Run options file image args)) outcome = OfCompiling outcome
+HasNotRun (Some _) outcome = ⊥
 
--- the bytes under FILE are refused so: by the first rule that they break, where they break it
-abbrev pub IsRefused : List (List ℕ) → Option Files → Refusal → Type 0
-IsRefused words files refusal =
-    (file image_name source : List ℕ) × IsRun words file image_name × Holds files file source × (length source ≤ longest_source) × Front Three source (Err refusal)
+-- ---- what the others leave
+
+-- the store failed: by a fetch, which changes nothing but that count, or by a keep of IMAGE for a source that is
+-- compiled, which changes that count, and after which the bytes under IMAGE alone are unknown
+pub record FetchFailed (command : Command) (old new : StoreState) : Type 0 where
+  pub files : new.files ≡ old.files
+  pub fetch : Rose (old.fetch_faults (fetched_of command)) (new.fetch_faults (fetched_of command))
+  pub keep : new.keep_faults (image_of command) ≡ old.keep_faults (image_of command)
+
+pub record KeepFailed (command : Command) (old new : StoreState) : Type 0 where
+  pub files : KeepsOthers (image_of command) old.files new.files
+  pub keep : Rose (old.keep_faults (image_of command)) (new.keep_faults (image_of command))
+  pub fetch : new.fetch_faults (fetched_of command) ≡ old.fetch_faults (fetched_of command)
+  pub of_source : (compiled : Compiled) × IsCompiled command old compiled
+
+abbrev pub StoreFailed : Command → StoreState → StoreState → Type 0
+StoreFailed command old new = FetchFailed command old new ⊎ KeepFailed command old new
+
+-- no count of the store but those of the fetch and of a keep of IMAGE changes, and where the store didn't fail none
+pub record KeepsCounts (command : Command) (old new : StoreState) (store_failed : Type 0) : Type 0 where
+  pub fetch_of : (name : List ℕ) → name ≢ fetched_of command → new.fetch_faults name ≡ old.fetch_faults name
+  pub keep_of : (name : List ℕ) → name ≢ image_of command → new.keep_faults name ≡ old.keep_faults name
+  pub no_failure : (store_failed → ⊥) → (name : List ℕ)
+      → (new.fetch_faults name ≡ old.fetch_faults name) × (new.keep_faults name ≡ old.keep_faults name)
+
+-- why a command kept no image, or ran none, and what is left then
+abbrev pub NotCompiled : Command → Outcome → StoreState → StoreState → Type 0
+NotCompiled command outcomes.StoreFault old new = StoreFailed command old new
+NotCompiled command outcomes.TooLong old new = IsTooLong command old × (new.files ≡ old.files)
+NotCompiled command (outcomes.Refused refusal) old new = IsRefused command old refusal × (new.files ≡ old.files)
+NotCompiled command outcomes.NoMemory old new = (new.files ≡ old.files) ⊎ KeepsSome command old new
+NotCompiled command _ old new = ⊥
+
+-- ---- the one answer
 
 -- a count that didn't rise
 abbrev pub StoodStill : ℕ → ℕ → Type 0
@@ -153,20 +158,62 @@ StoodStill old new = Rose old new → ⊥
 
 -- the one answer, or want of memory
 abbrev pub IsAnswer : Outcome → Outcome → Type 0
-IsAnswer result answer = (result ≡ answer) ⊎ (result ≡ outcomes.NoMemory)
+IsAnswer outcome answer = (outcome ≡ answer) ⊎ (outcome ≡ outcomes.NoMemory)
 
--- the answer by the bytes under FILE, of a store that tells them and doesn't fail to fetch them. Where no other object fails
--- either, a form has run, and to its end, since the bound leaves room for all its instructions
-pub record Answers (result : Outcome) (source : List ℕ) (none_failed : Type 0) : Type 0 where
-  pub too_long : longest_source < length source → IsAnswer result outcomes.TooLong
-  pub refused : (refusal : Refusal) → length source ≤ longest_source → Front Three source (Err refusal) → IsAnswer result (outcomes.Refused refusal)
-  pub accepted : (form : Form) → length source ≤ longest_source → Front Three source (Ok form) → none_failed → HasRun result ⊎ (result ≡ outcomes.NoMemory)
-  pub ended : (form : Form) (end : End) → length source ≤ longest_source → Front Three source (Ok form) → (form_runs form 0).1 ≡ Ended end → none_failed
-      → IsAnswer result (outcomes.Ran end)
+-- the outcomes of a run in which no object failed, or want of memory
+abbrev pub OfQuietRun : Outcome → Type 0
+OfQuietRun (outcomes.Ran end) = ⊤
+OfQuietRun outcomes.OutOfSteps = ⊤
+OfQuietRun outcomes.NoMemory = ⊤
+OfQuietRun _ = ⊥
 
--- no object failed but in a fetch of FILE: the counts of a keep of IMAGE, of input, out and err stood still
-pub record NoneFailed (keeps keeps' inputs inputs' outs outs' errs errs' : ℕ) : Type 0 where
-  pub keep : StoodStill keeps keeps'
-  pub input : StoodStill inputs inputs'
-  pub out : StoodStill outs outs'
-  pub err : StoodStill errs errs'
+-- no object failed but in the fetch: the count of a keep of IMAGE and those of the streams stood still
+pub record NoOtherFailed (command : Command) (old new : Outside) : Type 0 where
+  pub keep : StoodStill (old.store.keep_faults (image_of command)) (new.store.keep_faults (image_of command))
+  pub streams : NoneFailed old.streams new.streams
+
+-- whatever the streams offer, the source ends so within n steps
+abbrev pub EndsWithin : Command → Compiled → ℕ → End → Streams → Type 0
+EndsWithin command compiled n end old =
+    (input : Input) → Offers old input
+    → (source_runs (meaning_for command compiled) (level_of command) (sizes_of command) (args_of command) input n).1
+    ≡ Ended end
+
+-- the answer of `run` by the bytes under FILE. Where nothing else fails either, a compiled source runs to an end or to the
+-- bound on instructions, and to its end where the bound leaves room for that
+pub record RunAnswers (command : Command) (outcome : Outcome) (old new : Outside) (source : List ℕ) : Type 0 where
+  pub too_long : longest_of command < length source → IsAnswer outcome outcomes.TooLong
+  pub refused : (refusal : Refusal) → length source ≤ longest_of command → CompilesFor command source (Err refusal)
+      → IsAnswer outcome (outcomes.Refused refusal)
+  pub accepted : (compiled : Compiled) → length source ≤ longest_of command → CompilesFor command source (Ok compiled)
+      → NoOtherFailed command old new → OfQuietRun outcome
+  pub ended : (compiled : Compiled) (n : ℕ) (end : End) → length source ≤ longest_of command → CompilesFor command source (Ok compiled)
+      → NoOtherFailed command old new → EndsWithin command compiled n end old.streams
+      → end_bound (weight_of (meaning_for command compiled)) n ≤ steps_of command → IsAnswer outcome (outcomes.Ran end)
+
+-- ---- the promise
+
+-- what `run` promises: which outcomes come; what was kept and what ran; else why not, and what is left; which counts
+-- change; that a stream's fault comes only where its count rose; and, where the store tells the bytes under FILE and doesn't
+-- fail to fetch them, the one answer
+pub record RunPromise (command : Command) (outcome : Outcome) (old new : Outside) : Type 0 where
+  pub comes : OfMachine outcome ⊎ OfCompiling outcome
+  pub ran : OfMachine outcome
+      → (image : PlainImage) × KeepsImage command old.store new.store image × Ran command outcome image old.streams new.streams
+  pub not_run : OfCompiling outcome → NotCompiled command outcome old.store new.store
+  pub counts : KeepsCounts command old.store new.store (outcome ≡ outcomes.StoreFault)
+  pub failed : (which : Stream) → outcome ≡ fault_outcome which → Failed which old.streams new.streams
+  pub answers : (source : List ℕ) (files : Files) → old.store.files ≡ Some files → files (fetched_of command) ≡ Some source
+      → StoodStill (old.store.fetch_faults (fetched_of command)) (new.store.fetch_faults (fetched_of command))
+      → RunAnswers command outcome old new source
+
+-- what is promised of a command that is served, and of words that are none: the outcome is Usage, and nothing was touched.
+-- The commands that aren't built are never served
+abbrev pub Promise : Option Command → Outcome → Outside → Outside → Type 0
+Promise None outcome old new = (outcome ≡ outcomes.Usage) × (new ≡ old)
+Promise (Some (Build options file image)) outcome old new = ⊥
+Promise (Some (Exec options image args)) outcome old new = ⊥
+Promise (Some (Run options file image args)) outcome old new = RunPromise (Run options file image args) outcome old new
+Promise (Some (Sites file)) outcome old new = ⊥
+Promise (Some (Mean options file args)) outcome old new = ⊥
+Promise (Some (Gen run number)) outcome old new = ⊥

@@ -1,3 +1,4 @@
+pub mod Agreeing
 pub mod Compiled
 pub mod Forms
 pub mod Fort

@@ -1,18 +1,16 @@
 //! The image that a form is compiled to.
 
 ghost use Rattle.std.specs.Prelude.{◌≡◌, ◌+◌, IfOk};
-ghost use Rattle.byte_machine.specs.Images.{plain_image};
+ghost use Rattle.bm_image.specs.Images.{plain_image};
 ghost use Rattle.fort_forms.specs.Forms.{IsForm};
 ghost use Rattle.fort_driver.specs.Compiled.{form_image};
 
+use bm_image::{FnRec, Image};
 use bm_isa::Instr;
-use byte_machine::{FnRec, Image};
+use c_library::LibFn;
 use fc_base::NoMemory;
 use fort_forms::Form;
 use std::alloc::Global;
-
-/// The number of the checked memset among the machine's library calls.
-const MEMSET_CHK: u32 = 73;
 
 /// The weight of the form's main: nine nodes, a return among the joins, no register variable.
 const WEIGHT: u32 = 672;
@@ -52,7 +50,7 @@ pub fn compile(alloc: Global, form: &Form) -> Result<Image, NoMemory>
             Instr::Argument { from: 3, slot: 3 },
             Instr::Host {
                 to: 0,
-                call: MEMSET_CHK,
+                call: LibFn::Memset.host_number(true),
                 count: 4
             },
             Instr::Const {

@@ -8,7 +8,7 @@ use Rattle.c_tokens.specs.declared.Token.{Token}
 use Rattle.c_tokens.specs.declared.TokenKind.{TokenKind}
 use Rattle.fort_forms.specs.declared.forms.Form.{Form}
 use Rattle.fort_forms.specs.Forms.{IsForm, IsListOf, HaveNoForm, form_kinds, before_call}
-use Rattle.macro_meaning.specs.Definitions.{literal}
+use Rattle.macro_meaning.specs.Definitions.{number_token}
 use Rattle.macro_meaning.specs.Origins.{kinds as kinds_of}
 use Rattle.fort_forms.specs.Reading.{value_of, value_at, made_of, candidate, is_form, same_kinds, checked, form_of}
 use Rattle.fort_forms.proofs.Sameness.{kinds_decide}
@@ -67,7 +67,7 @@ form_read tokens form e = from (candidate tokens) refl e where
 -- ---- the form is read
 
 -- a number at its place
-number_read : (tokens : List Token) (kinds : List TokenKind) (i n : ℕ) → kinds_of tokens ≡ kinds → slice_get kinds i ≡ Some (literal n) → n < 2 ^ 32 → value_at tokens i ≡ Some n
+number_read : (tokens : List Token) (kinds : List TokenKind) (i n : ℕ) → kinds_of tokens ≡ kinds → slice_get kinds i ≡ Some (number_token n) → n < 2 ^ 32 → value_at tokens i ≡ Some n
 number_read tokens kinds i n same here small =
     through (slice_get tokens i)
     ∙ (ap (option_and_then value_of) (sym (slice_get-map (λ (t : Token). t.kind) tokens i) ∙ (ap (λ l. slice_get l i) same ∙ here))

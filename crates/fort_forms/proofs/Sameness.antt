@@ -1,48 +1,20 @@
 -- The test of two kinds of token decides whether they are equal.
-use Rattle.std.proofs.Common.{◌≡◌, Bool, true, false, List, [], ◌∷◌, get_or, refl, sym, ap, subst, ◌∙◌}
+use Rattle.std.proofs.Common.{◌≡◌, Bool, true, false, List, refl, sym, ap, subst}
 use Rattle.std.specs.Bool.{Decides}
 use Rattle.std.proofs.lemmas.Bool.{eqb-true, eq-eqb, and_parts, and_from, false≢true}
 use Rattle.std.proofs.lemmas.Slice.Eq.{bytes_eq-Decides, slice_eq-Decides}
-use Rattle.c_tokens.specs.declared.Punct.{Punct}
-use Rattle.c_tokens.specs.declared.Punct.TheVariants as punct
-use Rattle.c_tokens.specs.declared.HeaderId.{HeaderId}
-use Rattle.c_tokens.specs.declared.HeaderId.TheVariants as header
+use Rattle.c_headers.specs.declared.headers.HeaderId.{HeaderId}
+use Rattle.c_headers.specs.Headers.{header_number}
+use Rattle.c_headers.proofs.Table.{by_number as header_by_number}
 use Rattle.c_tokens.specs.declared.NumberKind.{NumberKind}
 use Rattle.c_tokens.specs.declared.TokenKind.{TokenKind}
 use Rattle.c_tokens.specs.declared.TokenKind.TheVariants as kind
-use Rattle.macro_meaning.specs.Sameness.{punct_number, header_number, same_header, same_bool, same_number, same_kind}
+use Rattle.c_tokens.proofs.PunctLaw.{same_punct_decides}
+use Rattle.macro_meaning.specs.Sameness.{same_header, same_bool, same_number, same_kind}
 use Rattle.fort_forms.specs.Reading.{same_kinds}
 
--- ---- punctuators and headers, by their numbers
-
-puncts : List Punct
-puncts =
-    punct.LeftBracket ∷ punct.RightBracket ∷ punct.LeftParen ∷ punct.RightParen ∷ punct.LeftBrace ∷ punct.RightBrace ∷ punct.Dot ∷ punct.Arrow
-    ∷ punct.PlusPlus ∷ punct.MinusMinus ∷ punct.Ampersand ∷ punct.Star ∷ punct.Plus ∷ punct.Minus ∷ punct.Tilde ∷ punct.Exclamation
-    ∷ punct.Slash ∷ punct.Percent ∷ punct.ShiftLeft ∷ punct.ShiftRight ∷ punct.Less ∷ punct.Greater ∷ punct.LessEqual ∷ punct.GreaterEqual
-    ∷ punct.EqualEqual ∷ punct.NotEqual ∷ punct.Caret ∷ punct.Bar ∷ punct.AndAnd ∷ punct.OrOr ∷ punct.Question ∷ punct.Colon
-    ∷ punct.Semicolon ∷ punct.Ellipsis ∷ punct.Assign ∷ punct.StarAssign ∷ punct.SlashAssign ∷ punct.PercentAssign ∷ punct.PlusAssign ∷ punct.MinusAssign
-    ∷ punct.ShiftLeftAssign ∷ punct.ShiftRightAssign ∷ punct.AmpersandAssign ∷ punct.CaretAssign ∷ punct.BarAssign ∷ punct.Comma ∷ punct.Hash ∷ punct.HashHash ∷ []
-
-numbered : (p : Punct) → get_or puncts (punct_number p) punct.Hash ≡ p
-unfolding puncts
-numbered punct.LeftBracket = refl
-numbered _ = refl
-
-same_punct : (p q : Punct) → punct_number p ≡ punct_number q → p ≡ q
-same_punct p q e = sym (numbered p) ∙ (ap (λ n. get_or puncts n punct.Hash) e ∙ numbered q)
-
-headers : List HeaderId
-headers = header.String ∷ header.Strings ∷ header.Stdio ∷ header.Stdlib ∷ header.Stddef ∷ header.Stdint ∷ header.Unistd ∷ []
-
-header_numbered : (h : HeaderId) → get_or headers (header_number h) header.String ≡ h
-unfolding headers
-header_numbered header.String = refl
-header_numbered _ = refl
-
 one_header : (a b : HeaderId) → same_header a b ≡ true → a ≡ b
-one_header a b e =
-    sym (header_numbered a) ∙ (ap (λ n. get_or headers n header.String) (eqb-true (header_number a) (header_number b) e) ∙ header_numbered b)
+one_header a b e = header_by_number a b (eqb-true (header_number a) (header_number b) e)
 
 -- ---- what the spelling of a number says
 
@@ -78,7 +50,7 @@ one_kind (kind.Number v a) (kind.Number w b) e =
     λ i. kind.Number (value i) (same i)
 one_kind (kind.CharConst a) (kind.CharConst b) e = ap (λ t. kind.CharConst t) (eqb-true a b e)
 one_kind (kind.Str a) (kind.Str b) e = ap (λ t. kind.Str t) ((bytes_eq-Decides a b).0 e)
-one_kind (kind.Punct p) (kind.Punct q) e = ap (λ t. kind.Punct t) (same_punct p q (eqb-true (punct_number p) (punct_number q) e))
+one_kind (kind.Punct p) (kind.Punct q) e = ap (λ t. kind.Punct t) ((same_punct_decides p q).0 e)
 one_kind (kind.HeaderName a) (kind.HeaderName b) e = ap (λ t. kind.HeaderName t) ((bytes_eq-Decides a b).0 e)
 one_kind (kind.Header a) (kind.Header b) e = ap (λ t. kind.Header t) (one_header a b e)
 one_kind _ _ e = absurd (false≢true e)
@@ -88,7 +60,7 @@ kind_itself (kind.Name a) = (bytes_eq-Decides a a).1 refl
 kind_itself (kind.Number v a) = and_from _ _ (eq-eqb v v refl) (number_itself a)
 kind_itself (kind.CharConst a) = eq-eqb a a refl
 kind_itself (kind.Str a) = (bytes_eq-Decides a a).1 refl
-kind_itself (kind.Punct p) = eq-eqb (punct_number p) (punct_number p) refl
+kind_itself (kind.Punct p) = (same_punct_decides p p).1 refl
 kind_itself (kind.HeaderName a) = (bytes_eq-Decides a a).1 refl
 kind_itself (kind.Header a) = eq-eqb (header_number a) (header_number a) refl
 

@@ -2,11 +2,11 @@
 use Rattle.std.specs.Prelude.{◌≡◌, ℕ, ◌≤◌, List, [], ◌∷◌, codes, slice_get, Some, option_map}
 use Rattle.c_tokens.specs.declared.Punct.{Punct}
 use Rattle.c_tokens.specs.declared.Punct.TheVariants as punct
-use Rattle.c_tokens.specs.declared.HeaderId.TheVariants as header
+use Rattle.c_headers.specs.declared.headers.HeaderId.TheVariants as header
 use Rattle.c_tokens.specs.declared.Token.{Token}
 use Rattle.c_tokens.specs.declared.TokenKind.{TokenKind}
 use Rattle.c_tokens.specs.declared.TokenKind.TheVariants as kind
-use Rattle.macro_meaning.specs.Definitions.{literal}
+use Rattle.macro_meaning.specs.Definitions.{number_token}
 use Rattle.macro_meaning.specs.Origins.{kinds as kinds_of}
 use Rattle.fort_forms.specs.declared.forms.Form.{Form}
 
@@ -34,10 +34,10 @@ unfoldable pub form_kinds : Form → List TokenKind
 form_kinds form =
     kind.Header header.String
     ∷ name (codes "int") ∷ name (codes "main") ∷ mark punct.LeftParen ∷ name (codes "void") ∷ mark punct.RightParen ∷ mark punct.LeftBrace
-    ∷ name (codes "char") ∷ name (codes "b") ∷ mark punct.LeftBracket ∷ literal form.size ∷ mark punct.RightBracket ∷ mark punct.Semicolon
-    ∷ name (codes "memset") ∷ mark punct.LeftParen ∷ name (codes "b") ∷ mark punct.Comma ∷ literal form.byte ∷ mark punct.Comma ∷ literal form.count
+    ∷ name (codes "char") ∷ name (codes "b") ∷ mark punct.LeftBracket ∷ number_token form.size ∷ mark punct.RightBracket ∷ mark punct.Semicolon
+    ∷ name (codes "memset") ∷ mark punct.LeftParen ∷ name (codes "b") ∷ mark punct.Comma ∷ number_token form.byte ∷ mark punct.Comma ∷ number_token form.count
     ∷ mark punct.RightParen ∷ mark punct.Semicolon
-    ∷ name (codes "return") ∷ literal form.result ∷ mark punct.Semicolon ∷ mark punct.RightBrace ∷ []
+    ∷ name (codes "return") ∷ number_token form.result ∷ mark punct.Semicolon ∷ mark punct.RightBrace ∷ []
 
 -- how many tokens stand before `memset`
 abbrev pub before_call : ℕ

@@ -5,7 +5,7 @@ use Rattle.std.specs.Cmp.Lexicographic.{pointwise}
 use Rattle.c_tokens.specs.declared.Token.{Token}
 use Rattle.c_tokens.specs.declared.TokenKind.{TokenKind}
 use Rattle.c_tokens.specs.declared.TokenKind.TheVariants as kind
-use Rattle.macro_meaning.specs.Definitions.{literal}
+use Rattle.macro_meaning.specs.Definitions.{number_token}
 use Rattle.macro_meaning.specs.Origins.{kinds as kinds_of}
 use Rattle.macro_meaning.specs.Sameness.{same_kind}
 use Rattle.fort_forms.specs.declared.forms.Form.{Form}
@@ -18,7 +18,7 @@ abbrev pub part_kind : Expected → TokenKind
 part_kind (Include header) = kind.Header header
 part_kind (Name text) = name text.now
 part_kind (Mark p) = mark p
-part_kind (Number n) = literal n
+part_kind (Number n) = number_token n
 
 -- the value of an integer literal, where it fits 32 bits
 abbrev pub value_of : TokenKind → Option ℕ

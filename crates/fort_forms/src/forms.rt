@@ -37,7 +37,7 @@ impl Expected {
         match (self, kind) {
             (Expected::Include(header), TokenKind::Header(other)) => *other == header,
             (Expected::Name(name), TokenKind::Name(text)) => text.bytes() == name.as_bytes(),
-            (Expected::Mark(punct), TokenKind::Punct(other)) => *other == punct,
+            (Expected::Mark(punct), TokenKind::Punct(other)) => other.is_spelled_as(punct),
             (Expected::Number(number), TokenKind::Number { value, kind }) => {
                 *value == u64::from(number)
                     && kind.decimal == (number != 0)

@@ -3,6 +3,12 @@ use Rattle.std.specs.Prelude.{ℕ, List, [], ◌∷◌, ◌++◌, codes, decimal
 use Rattle.fc_base.specs.Names.{rule_name, kind_name}
 use Rattle.fc_base.specs.declared.levels.End.{End}
 use Rattle.fc_base.specs.declared.levels.End.TheVariants as ends
+use Rattle.fc_base.specs.declared.faults.FetchFault.{FetchFault}
+use Rattle.fc_base.specs.declared.faults.FetchFault.TheVariants as fetch
+use Rattle.fc_base.specs.declared.faults.KeepFault.{KeepFault}
+use Rattle.fc_base.specs.declared.faults.KeepFault.TheVariants as keep
+use Rattle.fc_base.specs.declared.refusals.Fault.{Fault}
+use Rattle.fc_base.specs.declared.refusals.Fault.TheVariants as fault
 use Rattle.fc_base.specs.declared.refusals.Place.{Place}
 use Rattle.fort_words.specs.declared.outcomes.Outcome.{Outcome}
 use Rattle.fort_words.specs.declared.outcomes.Outcome.TheVariants as outcomes
@@ -52,3 +58,18 @@ fault_text (outcomes.Refused refusal) = fault_line_of (place_text refusal.place 
 fault_text outcomes.OutOfSteps = fault_line_of (codes "out of steps")
 fault_text outcomes.NoMemory = fault_line_of (codes "no memory")
 fault_text (outcomes.Undefined kind place) = fault_line_of (codes "undefined " ++ (kind_name kind ++ (codes " at " ++ place_text place)))
+
+-- ---- what a fault of a call on the way comes to
+
+abbrev pub after_fetch : FetchFault → Outcome
+after_fetch fetch.Failed = outcomes.StoreFault
+after_fetch fetch.TooLong = outcomes.TooLong
+after_fetch fetch.NoMemory = outcomes.NoMemory
+
+abbrev pub after_keep : KeepFault → Outcome
+after_keep keep.Failed = outcomes.StoreFault
+after_keep keep.NoMemory = outcomes.NoMemory
+
+abbrev pub after_fault : Fault → Outcome
+after_fault (fault.Refused refusal) = outcomes.Refused refusal
+after_fault fault.NoMemory = outcomes.NoMemory

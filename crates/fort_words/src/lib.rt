@@ -4,5 +4,5 @@
 mod commands;
 mod outcomes;
 
-pub use commands::run_names;
+pub use commands::{Command, command_is_its_words, read_command};
 pub use outcomes::{Outcome, fault_line, status};

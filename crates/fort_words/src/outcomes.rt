@@ -1,10 +1,11 @@
 //! What a command comes to.
 
 ghost use Rattle.std.specs.Prelude.{◌≡◌, IfOk};
-ghost use Rattle.fort_words.specs.Outcomes.{end_status, status_of, fault_text};
+ghost use Rattle.fort_words.specs.Outcomes.{end_status, status_of, fault_text, after_fetch, after_keep, after_fault};
+ghost use Rattle.fort_words.specs.declared.outcomes.Outcome.TheVariants.{NoMemory as MemoryOutcome};
 
-use fc_base::{End, NoMemory, Place, Refusal, Text, UndefKind};
-use std::alloc::Global;
+use fc_base::{End, Fault, FetchFault, KeepFault, NoMemory, Place, Refusal, Text, UndefKind};
+use std::alloc::{AllocError, Global};
 
 /// What a command comes to: it is done or has run to an end, or why not.
 #[derive(Clone, Copy, Debug, PartialEq, Eq)]
@@ -21,6 +22,56 @@ pub enum Outcome {
     OutOfSteps,
     Undefined { kind: UndefKind, place: Place },
     NoMemory,
+}
+
+impl From<FetchFault> for Outcome {
+    ghost from_gives = { λ fault outcome. outcome ≡ after_fetch fault };
+
+    fn from(fault: FetchFault) -> Outcome {
+        match fault {
+            FetchFault::Failed => Outcome::StoreFault,
+            FetchFault::TooLong => Outcome::TooLong,
+            FetchFault::NoMemory => Outcome::NoMemory,
+        }
+    }
+}
+
+impl From<KeepFault> for Outcome {
+    ghost from_gives = { λ fault outcome. outcome ≡ after_keep fault };
+
+    fn from(fault: KeepFault) -> Outcome {
+        match fault {
+            KeepFault::Failed => Outcome::StoreFault,
+            KeepFault::NoMemory => Outcome::NoMemory,
+        }
+    }
+}
+
+impl From<Fault> for Outcome {
+    ghost from_gives = { λ fault outcome. outcome ≡ after_fault fault };
+
+    fn from(fault: Fault) -> Outcome {
+        match fault {
+            Fault::Refused(refusal) => Outcome::Refused(refusal),
+            Fault::NoMemory => Outcome::NoMemory,
+        }
+    }
+}
+
+impl From<NoMemory> for Outcome {
+    ghost from_gives = { λ _ outcome. outcome ≡ MemoryOutcome };
+
+    fn from(_: NoMemory) -> Outcome {
+        Outcome::NoMemory
+    }
+}
+
+impl From<AllocError> for Outcome {
+    ghost from_gives = { λ _ outcome. outcome ≡ MemoryOutcome };
+
+    fn from(_: AllocError) -> Outcome {
+        Outcome::NoMemory
+    }
 }
 
 fn end_status(end: End) -> u8

@@ -1,2 +1,4 @@
 pub mod Events
+pub mod Objects
 pub mod Runs
+pub mod Worlds

@@ -1,7 +1,7 @@
 -- What a run shows and how it stands at a bound on its steps: the words of the plain meaning, of modules and of
 -- the machine. This project's own.
-use Rattle.std.specs.Prelude.{◌≡◌, ℕ, ◌≤◌, ◌==◌, List, ◌++◌, map, filter, Option}
-use Rattle.fc_base.specs.Outside.{IsFront, Takes, Appends}
+use Rattle.std.specs.Prelude.{◌≡◌, ℕ, ◌≤◌, ◌==◌, List, map, filter}
+use Rattle.fc_base.specs.Outside.{IsFront}
 use Rattle.fc_base.specs.declared.levels.End.{End}
 use Rattle.fc_base.specs.declared.undefined.UndefKind.{UndefKind}
 use Rattle.fc_base.specs.declared.refusals.Place.{Place}
@@ -43,20 +43,3 @@ IsMonotone f = (n m : ℕ) → n ≤ m → f n ≤ f m
 -- following composes
 abbrev pub FollowsComposes : Type 0
 FollowsComposes = (f g : ℕ → ℕ) → IsMonotone g → (a b c : Runs) → Follows f b a → Follows g c b → Follows (λ n. g (f n)) c a
-
--- what the library's rows act on: the bytes left on descriptor 0, and what has moved so far
-pub record World : Type 0 where
-  pub input : List ℕ
-  pub shown : Shown
-
--- the outside objects took and wrote what is shown and nothing else, where they tell it
-pub record Moves (shown : Shown) (input input' out out' err err' : Option (List ℕ)) : Type 0 where
-  pub taken : Takes (bytes_on 0 shown) input input'
-  pub on_out : Appends (bytes_on 1 shown) out out'
-  pub on_err : Appends (bytes_on 2 shown) err err'
-
--- before a fault: they took and wrote what is shown, and at each of them a front of what comes next
-pub record MovesUpTo (shown next : Shown) (input input' out out' err err' : Option (List ℕ)) : Type 0 where
-  pub taken : (front : List ℕ) × IsFront front (bytes_on 0 next) × Takes (bytes_on 0 shown ++ front) input input'
-  pub on_out : (front : List ℕ) × IsFront front (bytes_on 1 next) × Appends (bytes_on 1 shown ++ front) out out'
-  pub on_err : (front : List ℕ) × IsFront front (bytes_on 2 next) × Appends (bytes_on 2 shown ++ front) err err'

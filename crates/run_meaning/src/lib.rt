@@ -2,5 +2,7 @@
 #![tactic(auto)]
 
 mod laws;
+mod streams;
 
 pub use laws::follows_composes;
+pub use streams::Stream;

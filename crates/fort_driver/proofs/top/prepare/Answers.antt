@@ -1,58 +1,76 @@
 -- Where the store doesn't fail, its file is the form's image, and the machine stands at its entry.
-use Rattle.std.proofs.Common.{◌≡◌, ℕ, ◌≤◌, refl, ◌∙◌, ap, subst, inr, []}
-use Rattle.fc_base.specs.Outside.{KeepsOthers, Rose}
-use Rattle.byte_machine.specs.Opening.{program_of, first_core, first_end}
-use Rattle.byte_machine.specs.Images.{function_at}
-use Rattle.byte_machine.specs.declared.machine.Stop.TheVariants as stops
+use Rattle.std.proofs.Common.{◌≡◌, ℕ, ◌≤◌, Err, refl, ◌∙◌, ap, subst, inr, []}
+use Rattle.std.proofs.lemmas.Result.{err_from_is_err_and}
 use Rattle.std.specs.Option.{option_map}
+use Rattle.run_meaning.specs.Objects.{StoreState, stored}
+use Rattle.bm_image.specs.Images.{function_at}
+use Rattle.byte_machine.specs.Opening.{program_of, first_core, first_end}
+use Rattle.byte_machine.specs.declared.machine.Stop.TheVariants as stops
 use Rattle.fort_driver.specs.Compiled.{form_image}
-use Rattle.fort_driver.specs.Fort.{longest_source}
+use Rattle.fort_words.specs.Commands.{longest_source, run_of}
 use Rattle.fort_driver.proofs.Agreement.{let_in}
-use Rattle.fort_driver.proofs.Kept.{long_source, kept_image}
+use Rattle.fort_driver.proofs.Kept.{compiled_as, fetch_failed, keep_failed, kept_image}
 use Rattle.fort_driver.proofs.top.prepare.Goals as goal
 
 -- the source's length, as its vector's
 within : {len size : ℕ} → len ≡ size → len ≤ longest_source → size ≤ longest_source
 within same bound = subst (λ n. n ≤ longest_source) same bound
 
-pub returns-in-Err-TooLong-clause-not_ready : goal.returns-in-Err-TooLong-clause-not_ready
-returns-in-Err-TooLong-clause-not_ready g c =
-    let here = rw c.in-Err-TooLong.field-0-is at c.in-Err-TooLong.ensures in
-    (here.same_files, long_source _ _ (here.too_long refl))
+pub returns-in_err-source-clause-not_ready : goal.returns-in_err-source-clause-not_ready
+returns-in_err-source-clause-not_ready g c =
+    let p = err_from_is_err_and c.from_residual.result c.from_residual.ensures.1 in
+    let here = c.in_err-source.ensures in
+    let old : StoreState = stored (g.S.Store.files c.args.store.now) (g.S.Store.fetch_count c.args.store.now) (g.S.Store.keep_count c.args.store.now) in
+    let fetched : StoreState = stored (g.S.Store.files c.fetch.new.self) (g.S.Store.fetch_count c.fetch.new.self) (g.S.Store.keep_count c.fetch.new.self) in
+    rw (p.1, p.2)
+    (fetch_failed c.in_err-source.field-0.0 (run_of c.args.file.now c.args.image.now) old fetched here.same_files (λ is. here.too_long (ap Err is)) (λ is. here.failed (ap Err is)) here.same_keeps)
 
-pub returns-in-Ok-open-clause-ready : goal.returns-in-Ok-open-clause-ready
-returns-in-Ok-open-clause-ready g c =
-    let form = c.in-Ok-read_source.form in
-    let core : c.in-Ok-open.machine.core ≡ first_core (form_image form) [] =
-    c.in-Ok-open.ensures.core ∙ ap (λ i. first_core i c.new.result) c.in-Ok-build.ensures.image ∙ ap (first_core (form_image form)) c.new.ensures in
-    record {
-      image = form_image form;
-      image_kept = kept_image _ _ _ _ _ _ _ _ form c.in-Ok.ensures.found (within c.in-Ok.source.ok.0 c.in-Ok.ensures.bound) c.in-Ok.ensures.same_files c.deref.ensures.value
-          c.in-Ok-read_source.ensures.is (c.deref-2.ensures.value ∙ c.in-Ok-build.ensures.bytes) c.in-Ok-keep.ensures.kept;
-      compiled = refl;
-      program = c.in-Ok-open.ensures.program ∙ ap program_of c.in-Ok-build.ensures.image;
-      core = core;
-      no_stop = c.in-Ok-open.ensures.stop ∙ ap (λ i. option_map stops.Ended (first_end (function_at i.functions i.entry))) c.in-Ok-build.ensures.image ∙ ap (option_map stops.Ended) (let_in form c.in-Ok-read_source.ensures.form);
-    }
+pub returns-in_err-keep-clause-not_ready : goal.returns-in_err-keep-clause-not_ready
+returns-in_err-keep-clause-not_ready g c =
+    let p = err_from_is_err_and c.from_residual-in_err-keep.result c.from_residual-in_err-keep.ensures.1 in
+    let source = c.in_ok-source.ensures in
+    let here = c.in_err-keep.ensures in
+    let old : StoreState = stored (g.S.Store.files c.args.store.now) (g.S.Store.fetch_count c.args.store.now) (g.S.Store.keep_count c.args.store.now) in
+    let fetched : StoreState = stored (g.S.Store.files c.fetch.new.self) (g.S.Store.fetch_count c.fetch.new.self) (g.S.Store.keep_count c.fetch.new.self) in
+    let new : StoreState = stored (g.S.Store.files c.keep.new.self) (g.S.Store.fetch_count c.keep.new.self) (g.S.Store.keep_count c.keep.new.self) in
+    rw (p.1, p.2)
+    (keep_failed c.in_err-keep.field-0.0 (run_of c.args.file.now c.args.image.now) old fetched new c.in_ok-form.form
+    (compiled_as (run_of c.args.file.now c.args.image.now) old _ _ c.in_ok-form.form source.found (within c.in_ok-source.source.ok.0 source.bound) c.deref.ensures.value c.in_ok-form.ensures.is)
+    source.same_files (source.uncounted (λ failed. absurd (cc))) source.same_keeps here.others (λ is. here.no_memory (ap Err is)) (λ is. here.failed (ap Err is)) here.same_fetches)
 
-pub returns-clause-not_ready : goal.returns-clause-not_ready
-returns-clause-not_ready g c =
-    let form = c.in-Ok-read_source.form in
-    inr (
+pub returns-in_err-machine-clause-not_ready : goal.returns-in_err-machine-clause-not_ready
+returns-in_err-machine-clause-not_ready g c =
+    let p = err_from_is_err_and c.from_residual-in_err-machine.result c.from_residual-in_err-machine.ensures.1 in
+    let form = c.in_ok-form.form in
+    let source = c.in_ok-source.ensures in
+    let old : StoreState = stored (g.S.Store.files c.args.store.now) (g.S.Store.fetch_count c.args.store.now) (g.S.Store.keep_count c.args.store.now) in
+    let fetched : StoreState = stored (g.S.Store.files c.fetch.new.self) (g.S.Store.fetch_count c.fetch.new.self) (g.S.Store.keep_count c.fetch.new.self) in
+    let new : StoreState = stored (g.S.Store.files c.keep.new.self) (g.S.Store.fetch_count c.keep.new.self) (g.S.Store.keep_count c.keep.new.self) in
+    rw (p.1, p.2) (inr (
       form_image form,
-      kept_image _ _ _ _ _ _ _ _ form c.in-Ok.ensures.found (within c.in-Ok.source.ok.0 c.in-Ok.ensures.bound) c.in-Ok.ensures.same_files c.deref.ensures.value
-          c.in-Ok-read_source.ensures.is (c.deref-2.ensures.value ∙ c.in-Ok-build.ensures.bytes) c.in-Ok-keep.ensures.kept,
-    )
+      kept_image (run_of c.args.file.now c.args.image.now) old fetched new _ _ _ form refl refl source.found (within c.in_ok-source.source.ok.0 source.bound) source.same_files
+          c.deref.ensures.value c.in_ok-form.ensures.is (c.deref-2.ensures.value ∙ c.in_ok-built.ensures.bytes) c.in_ok-keep.ensures.kept,
+    ))
 
-pub returns-in-Err-Failed-keep-clause-not_ready : goal.returns-in-Err-Failed-keep-clause-not_ready
-returns-in-Err-Failed-keep-clause-not_ready g c =
-    let here = rw c.in-Err-Failed-keep.field-0-is at c.in-Err-Failed-keep.ensures in
-    let short = within c.in-Ok.source.ok.0 c.in-Ok.ensures.bound in
-    let form = c.in-Ok-read_source.form in
-    let read = rw c.deref.ensures.value at c.in-Ok-read_source.ensures.is in
-    inr (
-      subst (λ files. KeepsOthers c.args.image_name.now files (g.S.Store.files c.keep.new.self)) c.in-Ok.ensures.same_files here.others,
-      subst (λ count. Rose count (g.S.Store.keep_count c.keep.new.self c.args.image_name.now)) (c.in-Ok.ensures.same_keeps c.args.image_name.now) (here.failed refl),
-      here.same_fetches c.args.file.now ∙ c.in-Ok.ensures.uncounted (λ failed. absurd (cc)),
-      (c.in-Ok.source.items, form, c.in-Ok.ensures.found, short, read),
-    )
+pub returns-clause-ready : goal.returns-clause-ready
+returns-clause-ready g c =
+    let form = c.in_ok-form.form in
+    let source = c.in_ok-source.ensures in
+    let old : StoreState = stored (g.S.Store.files c.args.store.now) (g.S.Store.fetch_count c.args.store.now) (g.S.Store.keep_count c.args.store.now) in
+    let fetched : StoreState = stored (g.S.Store.files c.fetch.new.self) (g.S.Store.fetch_count c.fetch.new.self) (g.S.Store.keep_count c.fetch.new.self) in
+    let new : StoreState = stored (g.S.Store.files c.keep.new.self) (g.S.Store.fetch_count c.keep.new.self) (g.S.Store.keep_count c.keep.new.self) in
+    let opened = c.in_ok-machine.ensures in
+    let core : c.in_ok-machine.machine.core ≡ first_core (form_image form) [] =
+    opened.core ∙ ap (λ i. first_core i c.new.result) c.in_ok-built.ensures.image ∙ ap (first_core (form_image form)) c.new.ensures in
+    record {
+      level = refl;
+      sizes = refl;
+      image = form_image form;
+      image_kept = kept_image (run_of c.args.file.now c.args.image.now) old fetched new _ _ _ form refl refl source.found (within c.in_ok-source.source.ok.0 source.bound) source.same_files
+          c.deref.ensures.value c.in_ok-form.ensures.is (c.deref-2.ensures.value ∙ c.in_ok-built.ensures.bytes) c.in_ok-keep.ensures.kept;
+      made = refl;
+      program = opened.program ∙ ap program_of c.in_ok-built.ensures.image;
+      core = core;
+      no_stop = opened.stop ∙ ap (λ i. option_map stops.Ended (first_end (function_at i.functions i.entry))) c.in_ok-built.ensures.image
+          ∙ ap (option_map stops.Ended) (let_in form c.in_ok-form.ensures.form);
+    }
