@@ -1,0 +1,1 @@
+int main(void) { char b[8]; memset(b, 65, 8); return 3; }

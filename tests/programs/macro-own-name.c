@@ -1,0 +1,3 @@
+int foo = 2;
+#define foo (4 + foo)
+int main(void) { return foo; }

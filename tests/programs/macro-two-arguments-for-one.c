@@ -1,0 +1,2 @@
+#define f(x) x x
+f(1, 2)

@@ -1,0 +1,3 @@
+#if 1
+#define f(x) x
+f(1

@@ -1,0 +1,2 @@
+goto x;
+#error x

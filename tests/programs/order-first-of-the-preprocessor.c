@@ -1,0 +1,3 @@
+#define a 1
+#define a 2
+#error x

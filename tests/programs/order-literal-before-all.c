@@ -1,0 +1,3 @@
+goto x;
+#error x
+'ab'

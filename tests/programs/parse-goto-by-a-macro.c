@@ -1,0 +1,2 @@
+#define jump goto
+int main(void) { jump x; }

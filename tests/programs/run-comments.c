@@ -1,0 +1,4 @@
+/* a
+b */ #include <string.h>
+int main(void) { char b[8]; memset(b, 65, 8); return 3; }
+// c

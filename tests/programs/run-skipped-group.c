@@ -1,0 +1,6 @@
+#ifdef A
+#include <stdio.h>
+#error a
+#endif
+#include <string.h>
+int main(void) { char b[8]; memset(b, 65, 8); return 3; }
