@@ -40,9 +40,37 @@ moved_next program s = (next program (begun s.core s.world.input)).world.shown
 -- how many bytes of descriptor 0 a library call asks for: `read` and `getchar` alone ask for any, and the machine doesn't
 -- have them yet
 abbrev pub asked_by : LibFn → Bool → Core → ℕ
+asked_by calls.Exit checked core = 0
+asked_by calls.Abort checked core = 0
+asked_by calls.Malloc checked core = 0
+asked_by calls.Calloc checked core = 0
+asked_by calls.Realloc checked core = 0
+asked_by calls.Free checked core = 0
+asked_by calls.Memcpy checked core = 0
+asked_by calls.Memmove checked core = 0
+asked_by calls.Mempcpy checked core = 0
+asked_by calls.Memset checked core = 0
+asked_by calls.Bzero checked core = 0
+asked_by calls.ExplicitBzero checked core = 0
+asked_by calls.Memcmp checked core = 0
+asked_by calls.Strcpy checked core = 0
+asked_by calls.Stpcpy checked core = 0
+asked_by calls.Strncpy checked core = 0
+asked_by calls.Strcat checked core = 0
+asked_by calls.Strncat checked core = 0
+asked_by calls.Strlen checked core = 0
+asked_by calls.Strcmp checked core = 0
+asked_by calls.Strchr checked core = 0
+asked_by calls.Printf checked core = 0
+asked_by calls.Puts checked core = 0
+asked_by calls.Putchar checked core = 0
+asked_by calls.Dprintf checked core = 0
+asked_by calls.Sprintf checked core = 0
+asked_by calls.Snprintf checked core = 0
 asked_by calls.Read checked core = 0
+asked_by calls.Write checked core = 0
 asked_by calls.Getchar checked core = 0
-asked_by _ checked core = 0
+asked_by calls.Note checked core = 0
 
 abbrev pub asked_by_numbered : Option (LibFn × Bool) → Core → ℕ
 asked_by_numbered None core = 0

@@ -7,7 +7,7 @@ use Rattle.bm_image.specs.Images.{function_at}
 use Rattle.byte_machine.specs.Opening.{program_of, first_core, first_end}
 use Rattle.byte_machine.specs.declared.machine.Stop.TheVariants as stops
 use Rattle.fort_driver.specs.Compiled.{form_image}
-use Rattle.fort_words.specs.Commands.{longest_source, run_of}
+use Rattle.fort_words.specs.Commands.{longest_source}
 use Rattle.fort_driver.proofs.Agreement.{let_in}
 use Rattle.fort_driver.proofs.Kept.{compiled_as, fetch_failed, keep_failed, kept_image}
 use Rattle.fort_driver.proofs.top.prepare.Goals as goal
@@ -23,7 +23,7 @@ returns-in_err-source-clause-not_ready g c =
     let old : StoreState = stored (g.S.Store.files c.args.store.now) (g.S.Store.fetch_count c.args.store.now) (g.S.Store.keep_count c.args.store.now) in
     let fetched : StoreState = stored (g.S.Store.files c.fetch.new.self) (g.S.Store.fetch_count c.fetch.new.self) (g.S.Store.keep_count c.fetch.new.self) in
     rw (p.1, p.2)
-    (fetch_failed c.in_err-source.field-0.0 (run_of c.args.file.now c.args.image.now) old fetched here.same_files (λ is. here.too_long (ap Err is)) (λ is. here.failed (ap Err is)) here.same_keeps)
+    (fetch_failed c.in_err-source.field-0.0 _ old fetched here.same_files (λ is. here.too_long (ap Err is)) (λ is. here.failed (ap Err is)) here.same_keeps)
 
 pub returns-in_err-keep-clause-not_ready : goal.returns-in_err-keep-clause-not_ready
 returns-in_err-keep-clause-not_ready g c =
@@ -34,8 +34,8 @@ returns-in_err-keep-clause-not_ready g c =
     let fetched : StoreState = stored (g.S.Store.files c.fetch.new.self) (g.S.Store.fetch_count c.fetch.new.self) (g.S.Store.keep_count c.fetch.new.self) in
     let new : StoreState = stored (g.S.Store.files c.keep.new.self) (g.S.Store.fetch_count c.keep.new.self) (g.S.Store.keep_count c.keep.new.self) in
     rw (p.1, p.2)
-    (keep_failed c.in_err-keep.field-0.0 (run_of c.args.file.now c.args.image.now) old fetched new c.in_ok-form.form
-    (compiled_as (run_of c.args.file.now c.args.image.now) old _ _ c.in_ok-form.form source.found (within c.in_ok-source.source.ok.0 source.bound) c.deref.ensures.value c.in_ok-form.ensures.is)
+    (keep_failed c.in_err-keep.field-0.0 _ old fetched new c.in_ok-form.form
+    (compiled_as _ old _ _ c.in_ok-form.form source.found (within c.in_ok-source.source.ok.0 source.bound) c.deref.ensures.value c.in_ok-form.ensures.is)
     source.same_files (source.uncounted (λ failed. absurd (cc))) source.same_keeps here.others (λ is. here.no_memory (ap Err is)) (λ is. here.failed (ap Err is)) here.same_fetches)
 
 pub returns-in_err-machine-clause-not_ready : goal.returns-in_err-machine-clause-not_ready
@@ -48,7 +48,7 @@ returns-in_err-machine-clause-not_ready g c =
     let new : StoreState = stored (g.S.Store.files c.keep.new.self) (g.S.Store.fetch_count c.keep.new.self) (g.S.Store.keep_count c.keep.new.self) in
     rw (p.1, p.2) (inr (
       form_image form,
-      kept_image (run_of c.args.file.now c.args.image.now) old fetched new _ _ _ form refl refl source.found (within c.in_ok-source.source.ok.0 source.bound) source.same_files
+      kept_image _ old fetched new _ _ _ form refl refl source.found (within c.in_ok-source.source.ok.0 source.bound) source.same_files
           c.deref.ensures.value c.in_ok-form.ensures.is (c.deref-2.ensures.value ∙ c.in_ok-built.ensures.bytes) c.in_ok-keep.ensures.kept,
     ))
 
@@ -66,7 +66,7 @@ returns-clause-ready g c =
       level = refl;
       sizes = refl;
       image = form_image form;
-      image_kept = kept_image (run_of c.args.file.now c.args.image.now) old fetched new _ _ _ form refl refl source.found (within c.in_ok-source.source.ok.0 source.bound) source.same_files
+      image_kept = kept_image _ old fetched new _ _ _ form refl refl source.found (within c.in_ok-source.source.ok.0 source.bound) source.same_files
           c.deref.ensures.value c.in_ok-form.ensures.is (c.deref-2.ensures.value ∙ c.in_ok-built.ensures.bytes) c.in_ok-keep.ensures.kept;
       made = refl;
       program = opened.program ∙ ap program_of c.in_ok-built.ensures.image;
