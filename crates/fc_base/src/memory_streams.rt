@@ -81,7 +81,8 @@ impl Source for MemSource {
     fn read(&mut self, buf: &mut [u8]) -> Result<usize, Failed>
         ensures bound { IfOk result (λ n. n ≤ length buf.new) }
         ensures taken { IfOk result (λ n. Takes (take n buf.new) (Some self.old.left) (Some self.new.left)) }
-        ensures end { IfOk result (λ n. n ≡ 0 → 0 < length buf.old → IsAtEnd (Some self.old.left)) }
+        ensures end { IfOk result (λ n. n ≡ 0 → 0 < length buf.old → Some self.new.left ≡ Some []) }
+        ensures untold { Some self.old.left ≡ None → IsAtEnd (Some self.new.left) }
         ensures none_taken { OnErr result (Some self.new.left ≡ Some self.old.left) }
         ensures failed { OnErr result (Rose self.old.faults self.new.faults) }
         ensures counts { Counts self.old.faults self.new.faults }

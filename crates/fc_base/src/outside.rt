@@ -68,11 +68,13 @@ pub trait Source {
     ghost count: { Self → ℕ };
 
     /// Takes bytes to the front of `buf` and gives their number. At least one is taken unless `buf` is empty or
-    /// no byte is left, so 0 for a buffer that is not empty means the end. After a failure none was taken.
+    /// no byte is left, so 0 for a buffer that is not empty means the end, which is told from then on. A source that
+    /// tells nothing comes to tell at most that. After a failure none was taken.
     fn read(&mut self, buf: &mut [u8]) -> Result<usize, Failed>
         ensures bound { IfOk result (λ n. n ≤ length buf.new) }
         ensures taken { IfOk result (λ n. Takes (take n buf.new) (left self.old) (left self.new)) }
-        ensures end { IfOk result (λ n. n ≡ 0 → 0 < length buf.old → IsAtEnd (left self.old)) }
+        ensures end { IfOk result (λ n. n ≡ 0 → 0 < length buf.old → left self.new ≡ Some []) }
+        ensures untold { left self.old ≡ None → IsAtEnd (left self.new) }
         ensures none_taken { OnErr result (left self.new ≡ left self.old) }
         ensures failed { OnErr result (Rose (count self.old) (count self.new)) }
         ensures counts { Counts (count self.old) (count self.new) }

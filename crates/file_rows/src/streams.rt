@@ -7,7 +7,7 @@ use std::io;
 use std::io::{Error, ErrorKind, Read, Write};
 use std::process::Abort;
 
-/// Is interrupted, gives one byte, fails, and ends.
+/// Is interrupted, gives one byte, fails, ends, and would give bytes again, as a terminal does behind its end.
 #[derive(Drop)]
 struct FitfulReader {
     calls: u8,
@@ -25,7 +25,8 @@ impl Read for FitfulReader {
                 Ok(buf.len().min(1))
             }
             3 => Err(Error::from(ErrorKind::BrokenPipe)),
-            _ => Ok(0),
+            4 => Ok(0),
+            _ => Ok(buf.len()),
         }
     }
 }
@@ -77,6 +78,7 @@ fn a_source_counts_its_faults(rt: HostRuntime) {
     assert_read(&rt, &mut source, &mut buf, Ok(1), 0);
     assert_same(&rt, "byte", buf[0], b'x');
     assert_read(&rt, &mut source, &mut buf, Err(Failed), 1);
+    assert_read(&rt, &mut source, &mut buf, Ok(0), 1);
     assert_read(&rt, &mut source, &mut buf, Ok(0), 1);
 }
 

@@ -1,9 +1,9 @@
 //! The standard streams as a source and as sinks.
 //!
 //! The types stand over any reader and writer of std. A sink tells what its writer tells, which is nothing at a
-//! standard stream. A source tells nothing.
+//! standard stream. A source tells nothing but that it has ended.
 
-ghost use Rattle.std.specs.Prelude.{◌≡◌, None, min, is_err, if◌then◌else◌};
+ghost use Rattle.std.specs.Prelude.{◌≡◌, [], false, None, Some, min, is_err, if◌then◌else◌};
 ghost use Rattle.fc_base.specs.Outside.{last_count, one_more};
 
 use crate::transfer::{read_some, write_whole};
@@ -21,32 +21,43 @@ fn counted<T>(answer: Result<T, Failed>, faults: &mut u64) -> Result<T, Failed>
     answer
 }
 
-/// A reader as a source, with the number of its failed reads.
+/// A reader as a source, with the number of its failed reads. Once it has answered its end it is not asked again, as C's
+/// streams keep their end-of-file indicator (C11 7.21.7.1): a terminal may have more lines behind its end.
 #[derive(Drop)]
 pub struct StdSource<R> {
     reader: R,
+    ended: bool,
     faults: u64,
 }
 
 impl<R> StdSource<R> {
     pub fn new(reader: R) -> StdSource<R>
         ensures reader { result.reader ≡ reader }
+        ensures ended { result.ended ≡ false }
         ensures faults { result.faults ≡ 0 }
     {
-        StdSource { reader, faults: 0 }
+        StdSource {
+            reader,
+            ended: false,
+            faults: 0,
+        }
     }
 }
 
 impl<R: Read> Source for StdSource<R> {
-    ghost left = { λ _. None };
+    ghost left = { λ source. if source.ended then Some [] else None };
 
     ghost count = { λ source. min source.faults last_count };
 
     fn read(&mut self, buf: &mut [u8]) -> Result<usize, Failed> {
-        if buf.is_empty() {
+        if buf.is_empty() || self.ended {
             return Ok(0);
         }
-        counted(read_some(&mut self.reader, buf), &mut self.faults)
+        let answer = counted(read_some(&mut self.reader, buf), &mut self.faults);
+        if let Ok(0) = answer {
+            self.ended = true;
+        }
+        answer
     }
 
     fn faults(&self) -> u64 {
