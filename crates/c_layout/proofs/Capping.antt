@@ -1,8 +1,9 @@
 -- Numbers that stop at one past the limit give the same as those that don't.
-use Rattle.std.proofs.Common.{◌≡◌, ℕ, zero, suc, ◌+◌, ◌*◌, ◌<◌, ◌≤◌, max, List, [], ◌∷◌, ◌⊎◌, inl, inr, Bool, true, false, refl, ap, arith}
+use Rattle.std.proofs.Common.{◌≡◌, ℕ, zero, suc, ◌+◌, ◌*◌, ◌<◌, ◌≤◌, max, List, [], ◌∷◌, ◌⊎◌, inl, inr, Bool, true, false, Option, None, Some, refl, ap, arith}
+use Rattle.std.specs.Option.{option_map}
 use Rattle.c_layout.specs.declared.types.Layout.{Layout}
 use Rattle.c_layout.specs.declared.sizes.Placed.{Placed}
-use Rattle.c_layout.specs.Layouts.{repeated, aligned, end_of, last_place, greatest_size, greatest_align, aggregate, rounded}
+use Rattle.c_layout.specs.Layouts.{judged, repeated, aligned, end_of, last_place, greatest_size, greatest_align, aggregate, rounded}
 use Rattle.c_layout.specs.Capped.{capped_size, capped, last_behind, placed_behind, placed, with_member, aggregate_of}
 
 -- an alignment that a type may have
@@ -16,6 +17,14 @@ pub data AreFair : List Layout → Type 0 where
 
 alike : (x y : ℕ) → capped_size x ≡ capped_size y → (x ≡ y) ⊎ ((4194305 ≤ x) × (4194305 ≤ y))
 alike x y e = grind arith
+
+-- a size that was cut is past the limit exactly where the size is
+within : (s : ℕ) (a : ℕ) → judged (Some (capped (record { size = s; align = a }))) ≡ judged (Some (record { size = s; align = a }))
+within s a = grind arith
+
+pub judged_capped : (o : Option Layout) → judged (option_map capped o) ≡ judged o
+judged_capped None = refl
+judged_capped (Some l) = within l.size l.align
 
 product_cut : (s n : ℕ) → capped_size (capped_size s * n) ≡ capped_size (s * n)
 product_cut s zero = grind arith

@@ -59,7 +59,7 @@ conditional_none : {A : Type 0} (c : Bool) (o : Option A) (x : A) → cond c o N
 conditional_none true o x e = refl
 conditional_none false o x e = cc
 
-is_complete : (f : ℕ → Option Layout) (d : TagDef) (l : Layout) → definition_layout f d ≡ Some l → d.complete ≡ true
+pub is_complete : (f : ℕ → Option Layout) (d : TagDef) (l : Layout) → definition_layout f d ≡ Some l → d.complete ≡ true
 is_complete f d l e = conditional_none d.complete _ l e
 
 got_keeps : (f g : ℕ → Option Layout) → Keeps f g → (o p : Option TagDef) → ((d : TagDef) → o ≡ Some d → d.complete ≡ true → p ≡ Some d) →
@@ -80,7 +80,7 @@ tags_keep xs ys le ext = within_keeps (complete_count xs) (complete_count ys) xs
 abbrev pub IsGrounded : List TagDef → Type 0
 IsGrounded tags = (k : ℕ) (d : TagDef) → slice_get tags k ≡ Some d → d.complete ≡ true → is_some (tag_layout tags k) ≡ true
 
-given : {A : Type 0} (o : Option A) → is_some o ≡ true → (x : A) × (o ≡ Some x)
+pub given : {A : Type 0} (o : Option A) → is_some o ≡ true → (x : A) × (o ≡ Some x)
 given None e = cc
 given (Some x) e = (x, refl)
 
@@ -117,7 +117,7 @@ module _ (xs ys : List TagDef) (t : ℕ) (d : TagDef) (at : slice_get ys t ≡ S
     (unset : (old : TagDef) → slice_get xs t ≡ Some old → old.complete ≡ false)
     (count : complete_count ys ≡ complete_count xs + cond d.complete 1 0)
     (grounded : IsGrounded xs) (sizes : HaveSizes xs d) where
-  extends : Extends xs ys
+  pub extends : Extends xs ys
   extends k old e c = elim (eqb_tells k t) [
     | inl p ↦ let f = unset old (subst (λ n. slice_get xs n ≡ Some old) p.1 e) in cc
     | inr p ↦ others k p.1 ∙ e
@@ -142,7 +142,7 @@ module _ (xs ys : List TagDef) (t : ℕ) (d : TagDef) (at : slice_get ys t ≡ S
   some_map h None e = cc
   some_map h (Some x) e = refl
 
-  has_layout : d.complete ≡ true → is_some (definition_layout (tag_layout xs) d) ≡ true
+  pub has_layout : d.complete ≡ true → is_some (definition_layout (tag_layout xs) d) ≡ true
   has_layout c = rw c (some_map (aggregate d.is_union) _ (sizes c))
 
   counted : d.complete ≡ true → complete_count ys ≡ suc (complete_count xs)

@@ -1,24 +1,27 @@
 -- The layouts that a list of tags keeps stay right when a definition is added or set.
-use Rattle.std.proofs.Common.{◌≡◌, ◌≢◌, ℕ, zero, suc, ◌+◌, List, [], ◌∷◌, ◌++◌, length, false, cond, Option, None, Some, refl, sym, subst, ◌∙◌, ap, inl, inr, arith}
+use Rattle.std.proofs.Common.{◌≡◌, ◌≢◌, ℕ, zero, suc, ◌+◌, List, [], ◌∷◌, ◌++◌, length, true, false, cond, Option, None, Some, refl, sym, subst, ◌∙◌, ap, inl, inr, arith}
 use Rattle.std.proofs.lemmas.List.{length-map}
-use Rattle.std.specs.Prelude.{slice_get, slice_set, IsSomeAnd}
+use Rattle.std.specs.Prelude.{slice_get, slice_set, is_some, IsSomeAnd}
 use Rattle.std.specs.Option.{option_map}
 use Rattle.std.proofs.lemmas.Option.{slice_get-map, slice_get_within}
 use Rattle.std.proofs.lemmas.Bool.Decides.{eqb_tells}
 use Rattle.c_layout.specs.declared.tags.Entry.{Entry}
 use Rattle.c_layout.specs.declared.tags.TagDef.{TagDef}
 use Rattle.c_layout.specs.Capped.{capped}
-use Rattle.c_layout.specs.Entries.{definitions, kept_layout, AreLaidOut}
+use Rattle.c_layout.specs.Depths.{capped_depth, definition_depth, tag_depth}
+use Rattle.c_layout.specs.Entries.{definitions, kept_layout, kept_depth, AreLaidOut}
 use Rattle.c_layout.specs.Layouts.{definition_layout, tag_layout, complete_count, HaveSizes}
 use Rattle.c_layout.proofs.Edits.{slice_get-push_same, slice_get-push_other, slice_get-set_same, slice_get-set_other, count_by-push, count_by-set}
-use Rattle.c_layout.proofs.Grounds.{same_layout, new_layout, now_grounded}
+use Rattle.c_layout.proofs.DepthGrounds.{same_depth, new_depth}
+use Rattle.c_layout.proofs.Grounds.{Extends, extends, has_layout, same_layout, new_layout, now_grounded}
 
 module _ (es fs : List Entry) (t : ℕ) (e : Entry) (at : slice_get fs t ≡ Some e)
     (others : (k : ℕ) → k ≢ t → slice_get fs k ≡ slice_get es k)
     (unset : (old : TagDef) → slice_get (definitions es) t ≡ Some old → old.complete ≡ false)
     (count : complete_count (definitions fs) ≡ complete_count (definitions es) + cond e.def.complete 1 0)
     (laid : AreLaidOut es) (sizes : HaveSizes (definitions es) e.def)
-    (layout : e.layout ≡ option_map capped (definition_layout (tag_layout (definitions es)) e.def)) where
+    (layout : e.layout ≡ option_map capped (definition_layout (tag_layout (definitions es)) e.def))
+    (depth : e.depth ≡ capped_depth (definition_depth (tag_depth (definitions es)) e.def)) where
   definition_at : slice_get (definitions fs) t ≡ Some e.def
   definition_at = slice_get-map (λ x. x.def) fs t ∙ ap (option_map (λ (x : Entry). x.def)) at
 
@@ -31,9 +34,22 @@ module _ (es fs : List Entry) (t : ℕ) (e : Entry) (at : slice_get fs t ≡ Som
     | inr p ↦ rw (others k p.1, same_layout (definitions es) (definitions fs) t e.def definition_at definition_others unset count laid.sized sizes k p.1) (laid.kept k)
   ]
 
+  extended : Extends (definitions es) (definitions fs)
+  extended = extends (definitions es) (definitions fs) t e.def definition_at definition_others unset count laid.sized sizes
+
+  has_size : e.def.complete ≡ true → is_some (definition_layout (tag_layout (definitions es)) e.def) ≡ true
+  has_size = has_layout (definitions es) (definitions fs) t e.def definition_at definition_others unset count laid.sized sizes
+
+  deep : (k : ℕ) → kept_depth fs k ≡ capped_depth (tag_depth (definitions fs) k)
+  deep k = elim (eqb_tells k t) [
+    | inl p ↦ rw p.1 (rw (at, new_depth (definitions es) (definitions fs) t e.def definition_at definition_others extended count laid.sized has_size) depth)
+    | inr p ↦ rw (others k p.1, same_depth (definitions es) (definitions fs) t e.def definition_at definition_others extended count laid.sized has_size k p.1) (laid.deep k)
+  ]
+
   pub now_laid_out : AreLaidOut fs
   now_laid_out = record {
     kept = kept;
+    deep = deep;
     sized = now_grounded (definitions es) (definitions fs) t e.def definition_at definition_others unset count laid.sized sizes;
   }
 
@@ -50,10 +66,11 @@ past : (es : List Entry) (old : TagDef) → slice_get (definitions es) (length e
 past es old e = let h = simp length-map at (slice_get_within (definitions es) (length es) old e) in absurd (omega arith)
 
 pub laid_out-push : (es : List Entry) (e : Entry) → AreLaidOut es → HaveSizes (definitions es) e.def →
-    e.layout ≡ option_map capped (definition_layout (tag_layout (definitions es)) e.def) → AreLaidOut (es ++ e ∷ [])
-laid_out-push es e laid sizes layout =
+    e.layout ≡ option_map capped (definition_layout (tag_layout (definitions es)) e.def) →
+    e.depth ≡ capped_depth (definition_depth (tag_depth (definitions es)) e.def) → AreLaidOut (es ++ e ∷ [])
+laid_out-push es e laid sizes layout depth =
     now_laid_out es (es ++ e ∷ []) (length es) e (slice_get-push_same e es) (slice_get-push_other e es) (past es)
-    (ap complete_count (map_push es e) ∙ count_by-push e.def (λ d. d.complete) (definitions es)) laid sizes layout
+    (ap complete_count (map_push es e) ∙ count_by-push e.def (λ d. d.complete) (definitions es)) laid sizes layout depth
 
 behind : {A B : Type 0} (f : A → B) (o : Option A) (y : B) → option_map f o ≡ Some y → (x : A) × (o ≡ Some x)
 behind f None y e = cc
@@ -68,13 +85,13 @@ there P (Some x) h = (x, refl, h)
 
 pub laid_out-set : (es : List Entry) (t : ℕ) (e : Entry) → IsSomeAnd (slice_get (definitions es) t) (λ old. old.complete ≡ false) →
     AreLaidOut es → HaveSizes (definitions es) e.def → e.layout ≡ option_map capped (definition_layout (tag_layout (definitions es)) e.def) →
-    AreLaidOut (slice_set es t e)
-laid_out-set es t e incomplete laid sizes layout =
+    e.depth ≡ capped_depth (definition_depth (tag_depth (definitions es)) e.def) → AreLaidOut (slice_set es t e)
+laid_out-set es t e incomplete laid sizes layout depth =
     let old = there (λ d. d.complete ≡ false) _ incomplete in
     let was = behind (λ (x : Entry). x.def) (slice_get es t) old.0 (sym (slice_get-map (λ x. x.def) es t) ∙ old.1) in
     now_laid_out es (slice_set es t e) t e (slice_get-set_same e es t was.0 was.1) (λ k h. slice_get-set_other e es t k h)
     (λ x g. subst (λ d. d.complete ≡ false) (some_same (sym old.1 ∙ g)) old.2)
-    (ap complete_count (map_set es t e) ∙ count_by-set e.def (λ d. d.complete) (definitions es) t old.0 old.1 old.2) laid sizes layout
+    (ap complete_count (map_set es t e) ∙ count_by-set e.def (λ d. d.complete) (definitions es) t old.0 old.1 old.2) laid sizes layout depth
 
 pub definitions-set : (es : List Entry) (t : ℕ) (e : Entry) → definitions (slice_set es t e) ≡ slice_set (definitions es) t e.def
 definitions-set es t e = map_set es t e

@@ -1,4 +1,5 @@
 pub mod Capping
+pub mod DepthGrounds
 pub mod Edits
 pub mod Extents
 pub mod Fair

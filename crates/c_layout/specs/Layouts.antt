@@ -125,6 +125,10 @@ judged (Some l) = if nat_le l.size largest_type then Ok l else Err TooBig
 abbrev pub layout_within_limit : List TagDef → CType → Result Layout LayoutFault
 layout_within_limit tags ctype = judged (layout tags ctype)
 
+-- The layout that a member has, whose size is its declared size: a flexible array member takes no bytes.
+abbrev pub declared_within_limit : List TagDef → CType → Result Layout LayoutFault
+declared_within_limit tags ctype = judged (last_layout (tag_layout tags) ctype)
+
 -- where the last of members stands: behind those before it, or at 0 in a union
 abbrev pub offset_among : Bool → List Layout → ℕ
 offset_among false ls = last_place 0 ls

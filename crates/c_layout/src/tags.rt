@@ -5,7 +5,9 @@ ghost use Rattle.std.specs.Option.{option_copied, option_map};
 ghost use Rattle.c_layout.specs.Layouts.{HaveSizes, definition_layout, last_layout, layout, member_layout, member_layouts, tag_layout};
 ghost use Rattle.c_layout.specs.Laws.{HasLayouts};
 ghost use Rattle.c_layout.specs.Capped.{capped, placed};
+ghost use Rattle.c_layout.specs.Depths.{capped_depth, capped_depths, definition_depth, greatest_depth, tag_depth, type_depths};
 
+use crate::depths::{Depth, deeper};
 use crate::sizes::{Placed, array, integer, open_array, pointer};
 use crate::types::{CType, Layout};
 use fc_base::{NoMemory, Text};
@@ -30,11 +32,12 @@ pub struct TagDef {
     pub complete: bool,
 }
 
-/// A definition with its layout where it is complete, the size cut at one past the limit.
+/// A definition with its layout where it is complete, the size cut at one past the limit, and its depth, cut likewise.
 #[derive(Drop)]
 struct Entry {
     def: TagDef,
     layout: Option<Layout>,
+    depth: u32,
 }
 
 /// The structures and unions of a file, seen as the list of their definitions. No complete one contains itself.
@@ -91,7 +94,8 @@ impl Tags {
             Err(_) => return Err(NoMemory),
         };
         let layout = self.definition_extent(&def);
-        self.entries.push(Entry { def, layout })?;
+        let depth = self.definition_depth(&def);
+        self.entries.push(Entry { def, layout, depth })?;
         Ok(tag)
     }
 
@@ -102,7 +106,8 @@ impl Tags {
         ensures { self.new ≡ slice_set self.old tag def }
     {
         let layout = self.definition_extent(&def);
-        self.entries[tag as usize] = Entry { def, layout };
+        let depth = self.definition_depth(&def);
+        self.entries[tag as usize] = Entry { def, layout, depth };
     }
 
     /// Whether each member has a size, or for a last flexible array its element: what a complete definition wants.
@@ -146,7 +151,7 @@ impl Tags {
     }
 
     /// The layout of the last member of a structure or union.
-    fn last_extent(&self, ctype: &CType) -> Option<Layout>
+    pub(crate) fn last_extent(&self, ctype: &CType) -> Option<Layout>
         ensures { result ≡ option_map capped (last_layout (tag_layout self.now) ctype.now) }
     {
         match ctype {
@@ -188,5 +193,69 @@ impl Tags {
         }
         let placed = self.place(def.members.as_slice())?;
         Some(placed.aggregate(def.is_union))
+    }
+
+    /// The depth of a tag, up to one past the limit.
+    fn tag_depth(&self, tag: u32) -> u32
+        ensures { result ≡ capped_depth (tag_depth self.now tag) }
+    {
+        match self.entries.get(tag as usize) {
+            Some(entry) => entry.depth,
+            None => 0,
+        }
+    }
+
+    /// The depths of a type, each up to one past the limit.
+    pub(crate) fn depths(&self, ctype: &CType) -> Depth
+        ensures { result ≡ capped_depths (type_depths (tag_depth self.now) ctype.now) }
+    {
+        match ctype {
+            CType::Void | CType::Int { .. } => Depth {
+                plain: 0,
+                behind: 0,
+            },
+            CType::Ptr(of) => {
+                let behind = deeper(self.depths(of.get()).behind);
+                Depth {
+                    plain: behind,
+                    behind,
+                }
+            }
+            CType::Array(of, _) | CType::OpenArray(of) => {
+                let inner = self.depths(of.get());
+                Depth {
+                    plain: deeper(inner.plain),
+                    behind: deeper(inner.behind),
+                }
+            }
+            CType::Struct(tag) | CType::Union(tag) => Depth {
+                plain: self.tag_depth(*tag),
+                behind: 0,
+            },
+        }
+    }
+
+    /// The greatest depth of members, up to one past the limit.
+    fn greatest_depth(&self, members: &[Member]) -> u32
+        ensures { result ≡ capped_depth (greatest_depth (tag_depth self.now) members.now) }
+    {
+        let mut greatest = 0;
+        for index in 0..members.len() {
+            let depths = self.depths(&members[index].ctype);
+            if depths.plain > greatest {
+                greatest = depths.plain;
+            }
+        }
+        greatest
+    }
+
+    /// The depth of a definition, up to one past the limit.
+    fn definition_depth(&self, def: &TagDef) -> u32
+        ensures { result ≡ capped_depth (definition_depth (tag_depth self.now) def.now) }
+    {
+        if !def.complete {
+            return 0;
+        }
+        deeper(self.greatest_depth(def.members.as_slice()))
     }
 }

@@ -1,3 +1,4 @@
+pub mod ConstantKinds
 pub mod NodeHeights
 pub mod RowCounts
 pub mod StatementHeights

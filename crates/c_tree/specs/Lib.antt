@@ -1,6 +1,17 @@
 pub mod Bodies
+pub mod Constants
+pub mod Conversions
+pub mod FirstTokens
 pub mod Heights
+pub mod Initialisers
 pub mod Numbers
+pub mod Operators
+pub mod Paths
 pub mod Registers
 pub mod Rows
+pub mod Statements
+pub mod Traversals
+pub mod Typed
+pub mod TypedHeights
 pub mod Weights
+pub mod WellFormed

@@ -1,10 +1,10 @@
 -- A typed tree whose numbers name what is there and whose counts are those of its bodies. This project's own.
-use Rattle.std.specs.Prelude.{◌≡◌, ℕ, ◌+◌, ◌<◌, ◌≤◌, ◌⊎◌, ◌↔◌, ⊤, Bool, true, false, List, length, All, slice_get, Some, IfSome, IsSomeAnd, IsTrue}
+use Rattle.std.specs.Prelude.{◌≡◌, ◌≢◌, ℕ, ◌+◌, ◌<◌, ◌≤◌, ◌⊎◌, ◌↔◌, ⊤, Bool, true, false, List, length, All, slice_get, Some, IfSome, IsSomeAnd, IsTrue}
 use Rattle.std.specs.Option.{option_map}
 use Rattle.c_layout.specs.declared.types.CType.{CType, out-CType, every-CType}
 use Rattle.c_layout.specs.declared.types.CType.TheOpen.{CType-F}
 use Rattle.c_layout.specs.declared.tags.TagDef.{TagDef}
-use Rattle.c_headers.specs.Headers.{HasHeader}
+use Rattle.c_library.specs.declared.functions.LibFn.TheVariants.{Note}
 use Rattle.c_tree.specs.declared.programs.DataDef.{DataDef}
 use Rattle.c_tree.specs.declared.programs.FnDef.{FnDef}
 use Rattle.c_tree.specs.declared.programs.Link.{Link}
@@ -18,6 +18,7 @@ use Rattle.c_tree.specs.declared.typed.TypedStmt.{TypedStmt}
 use Rattle.c_tree.specs.declared.typed.TypedKind.TheOpen.{TypedKind-F, TypedExpr-F}
 use Rattle.c_tree.specs.Bodies.{Throughout}
 use Rattle.c_tree.specs.Registers.{IsRegister}
+use Rattle.c_tree.specs.Traversals.{calls}
 use Rattle.c_tree.specs.Weights.{function_counts}
 
 -- a number of something that is there
@@ -50,10 +51,10 @@ module _ (tags : List TagDef) where
   IsMemberThere true member ctype = PointsToMember member (out-CType ctype)
 
   module _ (functions : List FnDef) (objects : List DataDef) (locals : List LocalDef) where
-    -- a function of the file, or one that a header declares
+    -- a function of the file, or of the library, but for the line that shows a size
     abbrev pub IsCalleeThere : Callee → Type 0
     IsCalleeThere (Function number) = IsThere functions number
-    IsCalleeThere (Library f) = HasHeader f
+    IsCalleeThere (Library f) = f ≢ Note
 
     abbrev pub KindNames : TypedKind-F TypedKind TypedExpr → Type 0
     KindNames (TypedKind-F.Local number) = IsThere locals number
@@ -102,17 +103,15 @@ pub record IsObjectThere (objects : List DataDef) (object : DataDef) : Type 0 wh
   pub links : All (IsLinkThere objects object) object.links
   pub apart : (i j : ℕ) (a b : Link) → i < j → slice_get object.links i ≡ Some a → slice_get object.links j ≡ Some b → AreApart a b
 
--- A call of an inline function has the function of that number before this one.
-abbrev pub CallsBelow : List FnDef → (ℕ → ℕ) → ℕ → TypedKind-F TypedKind TypedExpr → Type 0
-CallsBelow functions rank caller (TypedKind-F.Call (Function number) args) =
-    IfSome (slice_get functions number) (λ f. IsTrue f.inlined → rank number < rank caller)
-CallsBelow functions rank caller _ = ⊤
+-- An inline function that is called has a lower rank than the function of that number.
+abbrev pub CallsBelow : List FnDef → (ℕ → ℕ) → ℕ → ℕ → Type 0
+CallsBelow functions rank caller number = IfSome (slice_get functions number) (λ f. IsTrue f.inlined → rank number < rank caller)
 
 -- Inline calls form no cycle: there are ranks that fall along each of them. So the counts of bodies are one list.
 pub record HasOrder (functions : List FnDef) : Type 0 where
   pub rank : ℕ → ℕ
   pub falls : (k : ℕ) (f : FnDef) → slice_get functions k ≡ Some f →
-      Throughout (λ number. ⊤) (every-TypedExpr (CallsBelow functions rank k) (λ e. ⊤)) f.body
+      Throughout (λ number. ⊤) (λ e. All (CallsBelow functions rank k) (calls e)) f.body
 
 -- A typed tree whose numbers all name what is there, whose inline calls form no cycle, and whose counts are those of
 -- its bodies. That it breaks no rule of typing is no part of it.

@@ -36,10 +36,12 @@ popped f fs e v [] h = ap (option_and_then alone) (taken f fs 0 e v h) ∙ by (a
     by None = refl
     by (Some w) = refl
 popped f fs e v (t ∷ ts) h =
-    ap (λ (o : Option Operand). option_and_then (λ next. run next ts) (option_and_then (on_operator t) o)) (taken f fs (pull_of (t ∷ ts)) e v h) ∙ by (applied f v)
+    ap (λ (o : Option Operand). option_and_then (λ next. run next ts) (option_and_then (on_operator t) o))
+    (taken f fs (pull_of (t ∷ ts)) e v h) ∙ by (applied f v)
   where
     by : (o : Option Value)
-        → option_and_then (λ next. run next ts) (option_and_then (on_operator t) (option_and_then (reduced (pull_of (t ∷ ts)) fs (restored f e)) o)) ≡ resume fs (restored f e) o (t ∷ ts)
+        → option_and_then (λ next. run next ts) (option_and_then (on_operator t)
+        (option_and_then (reduced (pull_of (t ∷ ts)) fs (restored f e)) o)) ≡ resume fs (restored f e) o (t ∷ ts)
     by None = refl
     by (Some w) = refl
 
@@ -77,7 +79,8 @@ on_comma_token : (fs : List Frame) (e : Bool) (v : Value) (ts : List TokenKind) 
 on_comma_token fs e v ts n = asked (token.Punct punct.Comma) fs e v ts (stuck_loose fs 0 e v n) ∙ by e
   where
     by : (d : Bool)
-        → option_and_then (λ next. run next ts) (if holds_comma fs && not d then Some (wants (Follows ∷ fs) false) else None) ≡ (if d then None else run (wants (Follows ∷ fs) false) ts)
+        → option_and_then (λ next. run next ts) (if holds_comma fs && not d then Some (wants (Follows ∷ fs) false) else None)
+        ≡ (if d then None else run (wants (Follows ∷ fs) false) ts)
     by true = rw (comma_held fs n) refl
     by false = rw (comma_held fs n) refl
 
@@ -114,20 +117,24 @@ complete (brackets {t = t} {x = x} r) fs e n h = complete r (Bracket e ∷ fs) e
 complete (operand {p = p} {s = s} {t = t} {x = x} q r) fs e n h =
     ap (option_and_then (λ next. run next s)) (on_prefix_is p fs e q)
     ∙ complete r (Sign p ∷ fs) e (omega arith) h
-    ∙ through (Sign p ∷ fs) fs e e (value e x) (λ a. Some (prefixed p a)) t t (λ a. popped (Sign p) fs e a t (within (pull_of t) 11 (pull_bound t)))
+    ∙ through (Sign p ∷ fs) fs e e (value e x) (λ a. Some (prefixed p a)) t t
+    (λ a. popped (Sign p) fs e a t (within (pull_of t) 11 (pull_bound t)))
 complete (operation {l = l} {p = p} {t = t} {u = u} {x = x} {y = y} q r w) fs e n h =
     complete r fs e n (let same = pull_is p l q in omega arith)
-    ∙ through fs fs e e (value e x) (λ a. option_and_then (λ b. combined e p a b) (value (evaluates_right e p a) y)) (token.Punct p ∷ t) u (λ a.
+    ∙ through fs fs e e (value e x) (λ a. option_and_then (λ b. combined e p a b) (value (evaluates_right e p a) y))
+    (token.Punct p ∷ t) u (λ a.
     on_binary_token p l fs e a t q n
     ∙ complete w (Left p a e ∷ fs) (evaluates_right e p a) (let same = own_is p l q in omega arith) (omega arith)
     ∙ through (Left p a e ∷ fs) fs (evaluates_right e p a) e (value (evaluates_right e p a) y) (λ b. combined e p a b) u u (λ b.
     popped (Left p a e) fs (evaluates_right e p a) b u (within (pull_of u) (own_level p) (let same = own_is p l q in omega arith))))
 complete (conditional_of {t = t} {u = u} {v = v} {c = c} {x = x} {y = y} q r w) fs e n h =
     complete q fs e (omega arith) (omega arith)
-    ∙ through fs fs e e (value e c) (λ k. option_and_then (λ a. option_and_then (λ b. Some (chosen k a b)) (value (e && not (is_true k)) y)) (value (e && is_true k) x)) (token.Punct punct.Question ∷ t) v (λ k.
+    ∙ through fs fs e e (value e c) (λ k. option_and_then (λ a. option_and_then (λ b. Some (chosen k a b)) (value (e && not (is_true k)) y))
+    (value (e && is_true k) x)) (token.Punct punct.Question ∷ t) v (λ k.
     on_question_token fs e k t n
     ∙ complete r (Asks k e ∷ fs) (e && is_true k) (omega arith) (omega arith)
-    ∙ through (Asks k e ∷ fs) fs (e && is_true k) e (value (e && is_true k) x) (λ a. option_and_then (λ b. Some (chosen k a b)) (value (e && not (is_true k)) y)) (token.Punct punct.Colon ∷ u) v (λ a.
+    ∙ through (Asks k e ∷ fs) fs (e && is_true k) e (value (e && is_true k) x)
+    (λ a. option_and_then (λ b. Some (chosen k a b)) (value (e && not (is_true k)) y)) (token.Punct punct.Colon ∷ u) v (λ a.
     complete w (Chooses k a e ∷ fs) (e && not (is_true k)) (omega arith) h
     ∙ through (Chooses k a e ∷ fs) fs (e && not (is_true k)) e (value (e && not (is_true k)) y) (λ b. Some (chosen k a b)) v v (λ b.
     popped (Chooses k a e) fs (e && not (is_true k)) b v (within (pull_of v) 1 h))))

@@ -80,7 +80,8 @@ signs : (fs : List Frame) (all : List TokenKind) (e : Bool) (s : List TokenKind)
 signs [] all e s o = omega arith
 signs (Bracket x ∷ fs) all e s o = omega arith
 signs (Sign p ∷ fs) all e s o = omega arith
-signs (Left p a x ∷ fs) all e s (in_left {p = p'} {l = l'} o q r h n) = let b = level_bounds p' l' q in let same = own_is p' l' q in omega arith
+signs (Left p a x ∷ fs) all e s (in_left {p = p'} {l = l'} o q r h n) =
+    let b = level_bounds p' l' q in let same = own_is p' l' q in omega arith
 signs (Asks c x ∷ fs) all e s o = omega arith
 signs (Chooses c a x ∷ fs) all e s o = omega arith
 signs (Follows ∷ fs) all e s o = omega arith
@@ -160,7 +161,8 @@ module _ (all : List TokenKind) (l : ℕ) (t : List TokenKind) where
   by_value f fs go e v o (Some w) g c h r = go (restored f e) w o h (popped all l f fs e v w t c g r)
 
   by_frame : (f : Frame) (fs : List Frame) → Reduces fs → (e : Bool) (v : Value) (o : Operand) (b : Bool) → completes l f ≡ b
-      → (if b then option_and_then (reduced l fs (restored f e)) (applied f v) else Some (record { stack = f ∷ fs; evaluated = e; value = v })) ≡ Some o → Read all l (f ∷ fs) e v t → Reduced all l o t
+      → (if b then option_and_then (reduced l fs (restored f e)) (applied f v)
+      else Some (record { stack = f ∷ fs; evaluated = e; value = v })) ≡ Some o → Read all l (f ∷ fs) e v t → Reduced all l o t
   by_frame f fs go e v o true c h r = by_value f fs go e v o (applied f v) refl c h r
   by_frame f fs go e v o false c h r =
       let same : ◌≡◌ {A = Operand} (record { stack = f ∷ fs; evaluated = e; value = v }) o = cc in
@@ -180,7 +182,17 @@ IsAt all (has fs e v) t = Read all 12 fs e v t
 
 fresh : {all : List TokenKind} {fs : List Frame} {e : Bool} {s t : List TokenKind} {x : Tree} {v : Value} → Open all fs e s
     → Reads 13 s x t → value e x ≡ Some v → Read all 12 fs e v t
-fresh {all} {fs} {e} {s} {t} {x} {v} o r h = record { start = s; level = 13; tree = x; opened = o; reads = r; is = h; taken = (let b = signs fs all e s o in omega arith); high = omega arith }
+fresh {all} {fs} {e} {s} {t} {x} {v} o r h =
+    record {
+      start = s;
+      level = 13;
+      tree = x;
+      opened = o;
+      reads = r;
+      is = h;
+      taken = (let b = signs fs all e s o in omega arith);
+      high = omega arith;
+    }
 
 same_phase : (all : List TokenKind) (ph next : Phase) (t : List TokenKind) → ◌≡◌ {A = Option Phase} (Some ph) (Some next) → IsAt all ph t
     → IsAt all next t
@@ -207,7 +219,17 @@ at_operand all fs e (token.Header s) ts next o h = cc
 
 raised : {all : List TokenKind} {l k : ℕ} {fs : List Frame} {e : Bool} {v : Value} {t : List TokenKind} → l ≤ k → Read all k fs e v t
     → Read all l fs e v t
-raised le r = record { start = r.start; level = r.level; tree = r.tree; opened = r.opened; reads = r.reads; is = r.is; taken = r.taken; high = (let h = r.high in omega arith) }
+raised le r =
+    record {
+      start = r.start;
+      level = r.level;
+      tree = r.tree;
+      opened = r.opened;
+      reads = r.reads;
+      is = r.is;
+      taken = r.taken;
+      high = (let h = r.high in omega arith);
+    }
 
 -- a stack whose top waits at a level takes operands of that level
 waits_not : (l k : ℕ) → not (nat_le l k) ≡ true → suc k ≤ l
@@ -261,7 +283,8 @@ module _ (all ts : List TokenKind) (next : Phase) where
       → Reads k s x (token.Punct punct.RightParen ∷ ts) → value e x ≡ Some v
       → on_close fs v ≡ Some next → IsAt all next ts
   at_close [] e v s k x o r h g = cc
-  at_close (Bracket d ∷ fs) e v s k x (in_bracket o) r h g = same_phase all (has fs d v) next ts g (fresh o (brackets (looser (omega arith) r)) h)
+  at_close (Bracket d ∷ fs) e v s k x (in_bracket o) r h g =
+      same_phase all (has fs d v) next ts g (fresh o (brackets (looser (omega arith) r)) h)
   at_close (Sign p ∷ fs) e v s k x o r h g = cc
   at_close (Left p a d ∷ fs) e v s k x o r h g = cc
   at_close (Asks c d ∷ fs) e v s k x o r h g = cc
@@ -274,7 +297,8 @@ module _ (all ts : List TokenKind) (next : Phase) where
     where
       by : (b d : Bool) → holds_comma fs ≡ b → (if b && not d then Some (wants (Follows ∷ fs) false) else None) ≡ Some next
           → Read all 0 fs d v (token.Punct punct.Comma ∷ ts) → IsAt all next ts
-      by true false q g r = same_phase all (wants (Follows ∷ fs) false) next ts g (in_comma r.opened (looser (omega arith) r.reads) r.is (held fs q))
+      by true false q g r =
+          same_phase all (wants (Follows ∷ fs) false) next ts g (in_comma r.opened (looser (omega arith) r.reads) r.is (held fs q))
       by true true q g r = cc
       by false d q g r = cc
 
@@ -292,9 +316,12 @@ module _ (all ts : List TokenKind) (next : Phase) where
   at_punct : (p : Punct) (o : Operand) → Reduced all (punct_pull p) o (token.Punct p ∷ ts) → on_punct p o ≡ Some next → IsAt all next ts
   at_punct punct.Question o r h =
       same_phase all (wants (Asks o.value o.evaluated ∷ o.stack) (o.evaluated && is_true o.value)) next ts h
-      (in_question r.read.opened (looser r.read.high r.read.reads) r.read.is (two all o.stack o.evaluated r.read.start r.read.opened r.waiting))
-  at_punct punct.Colon o r h = at_colon o.stack o.evaluated o.value r.read.start r.read.level r.read.tree r.read.opened r.read.reads r.read.is h
-  at_punct punct.RightParen o r h = at_close o.stack o.evaluated o.value r.read.start r.read.level r.read.tree r.read.opened r.read.reads r.read.is h
+      (in_question r.read.opened (looser r.read.high r.read.reads) r.read.is
+      (two all o.stack o.evaluated r.read.start r.read.opened r.waiting))
+  at_punct punct.Colon o r h =
+      at_colon o.stack o.evaluated o.value r.read.start r.read.level r.read.tree r.read.opened r.read.reads r.read.is h
+  at_punct punct.RightParen o r h =
+      at_close o.stack o.evaluated o.value r.read.start r.read.level r.read.tree r.read.opened r.read.reads r.read.is h
   at_punct punct.Comma o r h = at_comma o.stack o.evaluated o.value r.read h
   at_punct p o r h = at_binary p o r (level_of p) refl h
 

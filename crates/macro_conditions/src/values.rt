@@ -1,9 +1,12 @@
 //! The integers of a condition: 64-bit numbers, signed or unsigned.
 
-ghost use Rattle.std.specs.Prelude.{◌≡◌, ◌<◌, ◌^◌, ◌≢◌, true, false, if◌then◌else◌};
-ghost use Rattle.macro_conditions.specs.Values.{is_true, truth, literal_value, character_value, is_negative, negated, magnitude, have_same_sign, is_less, is_bad_division, signed_quotient, signed_remainder, quotient, remainder, is_bad_shift, shifted_left, shifted_right, unless_bad, combined, evaluates_right, prefixed, chosen, joint};
+ghost use Rattle.std.specs.Prelude.{◌≡◌, not};
+ghost use Rattle.fc_base.specs.declared.levels.Width.TheVariants.{W8};
+ghost use Rattle.macro_conditions.specs.Values.{is_true, truth, literal_value, character_value, arithmetic, shift, comparison, combined, evaluates_right, prefixed, chosen, joint};
 
+use c_arithmetic::{BinaryOperator, IntType, UnaryOperator, binary, unary};
 use c_tokens::Punct;
+use fc_base::Width;
 
 /// The 64 bits of a number, in two's complement where it is signed.
 #[derive(Clone, Copy)]
@@ -56,38 +59,6 @@ pub fn character_value(byte: u8) -> Value
     }
 }
 
-fn is_negative(bits: u64) -> bool
-    ensures { result ≡ is_negative bits }
-{
-    bits >= SIGN
-}
-
-fn negated(bits: u64) -> u64
-    ensures { result ≡ negated bits }
-{
-    if bits == 0 { 0 } else { u64::MAX - bits + 1 }
-}
-
-fn magnitude(bits: u64) -> u64
-    ensures { result ≡ magnitude bits }
-{
-    if is_negative(bits) {
-        negated(bits)
-    } else {
-        bits
-    }
-}
-
-fn have_same_sign(a: u64, b: u64) -> bool
-    ensures { result ≡ have_same_sign a b }
-{
-    if is_negative(a) {
-        is_negative(b)
-    } else {
-        !is_negative(b)
-    }
-}
-
 fn joint(a: Value, b: Value, bits: u64) -> Value
     ensures { result ≡ joint a b bits }
 {
@@ -97,139 +68,53 @@ fn joint(a: Value, b: Value, bits: u64) -> Value
     }
 }
 
-fn is_less(a: Value, b: Value) -> bool
-    ensures { result ≡ is_less a b }
+/// The type of 64 bits.
+fn type_of(unsigned: bool) -> IntType
+    ensures { result ≡ record { width = W8; signed = not unsigned } }
 {
-    if a.unsigned || b.unsigned || have_same_sign(a.bits, b.bits) {
-        a.bits < b.bits
-    } else {
-        is_negative(a.bits)
+    IntType {
+        width: Width::W8,
+        signed: !unsigned,
     }
 }
 
-fn is_bad_division(a: Value, b: Value) -> bool
-    ensures { result ≡ is_bad_division a b }
+fn arithmetic(evaluated: bool, operator: BinaryOperator, a: Value, b: Value) -> Option<Value>
+    ensures { result ≡ arithmetic evaluated operator a b }
 {
-    b.bits == 0 || (!(a.unsigned || b.unsigned) && (a.bits == SIGN && b.bits == u64::MAX))
-}
-
-fn signed_quotient(a: u64, b: u64) -> u64
-    requires { magnitude b ≢ 0 }
-    ensures { result ≡ signed_quotient a b }
-{
-    let quotient = magnitude(a) / magnitude(b);
-    if have_same_sign(a, b) {
-        quotient
-    } else {
-        negated(quotient)
+    match binary(operator, type_of(a.unsigned || b.unsigned), a.bits, b.bits) {
+        Ok(bits) => Some(joint(a, b, bits)),
+        Err(_) if evaluated => None,
+        Err(_) => Some(joint(a, b, 0)),
     }
 }
 
-fn signed_remainder(a: u64, b: u64) -> u64
-    requires { magnitude b ≢ 0 }
-    ensures { result ≡ signed_remainder a b }
+fn shift(evaluated: bool, operator: BinaryOperator, a: Value, b: Value) -> Option<Value>
+    ensures { result ≡ shift evaluated operator a b }
 {
-    let remainder = magnitude(a) % magnitude(b);
-    if is_negative(a) {
-        negated(remainder)
-    } else {
-        remainder
+    match binary(operator, type_of(a.unsigned), a.bits, b.bits) {
+        Ok(bits) => Some(Value {
+            bits,
+            unsigned: a.unsigned,
+        }),
+        Err(_) if evaluated => None,
+        Err(_) => Some(Value {
+            bits: 0,
+            unsigned: a.unsigned,
+        }),
     }
 }
 
-fn quotient(a: Value, b: Value) -> u64
-    requires { is_bad_division a b ≡ false }
-    ensures { result ≡ quotient a b }
+fn comparison(evaluated: bool, operator: BinaryOperator, a: Value, b: Value) -> Option<Value>
+    ensures { result ≡ comparison evaluated operator a b }
 {
-    if a.unsigned || b.unsigned {
-        a.bits / b.bits
-    } else {
-        signed_quotient(a.bits, b.bits)
+    match binary(operator, type_of(a.unsigned || b.unsigned), a.bits, b.bits) {
+        Ok(bits) => Some(Value {
+            bits,
+            unsigned: false,
+        }),
+        Err(_) if evaluated => None,
+        Err(_) => Some(truth(false)),
     }
-}
-
-fn remainder(a: Value, b: Value) -> u64
-    requires { is_bad_division a b ≡ false }
-    ensures { result ≡ remainder a b }
-{
-    if a.unsigned || b.unsigned {
-        a.bits % b.bits
-    } else {
-        signed_remainder(a.bits, b.bits)
-    }
-}
-
-fn is_bad_shift(count: Value) -> bool
-    ensures { result ≡ is_bad_shift count }
-{
-    count.bits >= 64
-}
-
-fn shifted_left(a: Value, count: u64) -> u64
-    requires { count < 64 }
-    ensures { result ≡ shifted_left a count }
-{
-    a.bits.wrapping_shl(count as u32)
-}
-
-fn shifted_right(a: Value, count: u64) -> u64
-    requires { count < 64 }
-    ensures { result ≡ shifted_right a count }
-{
-    if !a.unsigned && is_negative(a.bits) {
-        u64::MAX - ((u64::MAX - a.bits) >> count)
-    } else {
-        a.bits >> count
-    }
-}
-
-/// What an operation that is bad gives: nothing where it is evaluated, and 0 where it is not.
-fn bad(evaluated: bool, unsigned: bool) -> Option<Value>
-    ensures { result ≡ unless_bad evaluated true (record { bits = 0; unsigned = unsigned }) }
-{
-    if evaluated {
-        None
-    } else {
-        Some(Value { bits: 0, unsigned })
-    }
-}
-
-fn divided(evaluated: bool, a: Value, b: Value) -> Option<Value>
-    ensures { result ≡ unless_bad evaluated (is_bad_division a b) (joint a b (quotient a b)) }
-{
-    if is_bad_division(a, b) {
-        bad(evaluated, a.unsigned || b.unsigned)
-    } else {
-        Some(joint(a, b, quotient(a, b)))
-    }
-}
-
-fn divided_rest(evaluated: bool, a: Value, b: Value) -> Option<Value>
-    ensures { result ≡ unless_bad evaluated (is_bad_division a b) (joint a b (remainder a b)) }
-{
-    if is_bad_division(a, b) {
-        bad(evaluated, a.unsigned || b.unsigned)
-    } else {
-        Some(joint(a, b, remainder(a, b)))
-    }
-}
-
-fn shifted(evaluated: bool, left: bool, a: Value, b: Value) -> Option<Value>
-    ensures { result ≡ unless_bad evaluated (is_bad_shift b)
-        (record a { bits = (if left then shifted_left a b.bits else shifted_right a b.bits) }) }
-{
-    if is_bad_shift(b) {
-        return bad(evaluated, a.unsigned);
-    }
-    let bits = if left {
-        shifted_left(a, b.bits)
-    } else {
-        shifted_right(a, b.bits)
-    };
-    Some(Value {
-        bits,
-        unsigned: a.unsigned,
-    })
 }
 
 /// The value of a binary operator (C11 6.5.5 to 6.5.14).
@@ -237,22 +122,22 @@ pub fn combined(evaluated: bool, operator: Punct, a: Value, b: Value) -> Option<
     ensures { result ≡ combined evaluated operator a b }
 {
     match operator {
-        Punct::Star => Some(joint(a, b, a.bits.wrapping_mul(b.bits))),
-        Punct::Slash => divided(evaluated, a, b),
-        Punct::Percent => divided_rest(evaluated, a, b),
-        Punct::Plus => Some(joint(a, b, a.bits.wrapping_add(b.bits))),
-        Punct::Minus => Some(joint(a, b, a.bits.wrapping_sub(b.bits))),
-        Punct::ShiftLeft => shifted(evaluated, true, a, b),
-        Punct::ShiftRight => shifted(evaluated, false, a, b),
-        Punct::Less => Some(truth(is_less(a, b))),
-        Punct::Greater => Some(truth(is_less(b, a))),
-        Punct::LessEqual => Some(truth(!is_less(b, a))),
-        Punct::GreaterEqual => Some(truth(!is_less(a, b))),
-        Punct::EqualEqual => Some(truth(a.bits == b.bits)),
-        Punct::NotEqual => Some(truth(a.bits != b.bits)),
-        Punct::Ampersand => Some(joint(a, b, a.bits & b.bits)),
-        Punct::Caret => Some(joint(a, b, a.bits ^ b.bits)),
-        Punct::Bar => Some(joint(a, b, a.bits | b.bits)),
+        Punct::Star => arithmetic(evaluated, BinaryOperator::Multiply, a, b),
+        Punct::Slash => arithmetic(evaluated, BinaryOperator::Divide, a, b),
+        Punct::Percent => arithmetic(evaluated, BinaryOperator::Remainder, a, b),
+        Punct::Plus => arithmetic(evaluated, BinaryOperator::Add, a, b),
+        Punct::Minus => arithmetic(evaluated, BinaryOperator::Subtract, a, b),
+        Punct::ShiftLeft => shift(evaluated, BinaryOperator::ShiftLeft, a, b),
+        Punct::ShiftRight => shift(evaluated, BinaryOperator::ShiftRight, a, b),
+        Punct::Less => comparison(evaluated, BinaryOperator::Less, a, b),
+        Punct::Greater => comparison(evaluated, BinaryOperator::Greater, a, b),
+        Punct::LessEqual => comparison(evaluated, BinaryOperator::LessEqual, a, b),
+        Punct::GreaterEqual => comparison(evaluated, BinaryOperator::GreaterEqual, a, b),
+        Punct::EqualEqual => comparison(evaluated, BinaryOperator::Equal, a, b),
+        Punct::NotEqual => comparison(evaluated, BinaryOperator::NotEqual, a, b),
+        Punct::Ampersand => arithmetic(evaluated, BinaryOperator::And, a, b),
+        Punct::Caret => arithmetic(evaluated, BinaryOperator::Xor, a, b),
+        Punct::Bar => arithmetic(evaluated, BinaryOperator::Or, a, b),
         Punct::AndAnd => Some(truth(is_true(a) && is_true(b))),
         Punct::OrOr => Some(truth(is_true(a) || is_true(b))),
         _ => None,
@@ -276,11 +161,11 @@ pub fn prefixed(operator: Punct, a: Value) -> Value
 {
     match operator {
         Punct::Minus => Value {
-            bits: negated(a.bits),
+            bits: unary(UnaryOperator::Minus, type_of(a.unsigned), a.bits),
             unsigned: a.unsigned,
         },
         Punct::Tilde => Value {
-            bits: u64::MAX - a.bits,
+            bits: unary(UnaryOperator::Complement, type_of(a.unsigned), a.bits),
             unsigned: a.unsigned,
         },
         Punct::Exclamation => truth(!is_true(a)),

@@ -3,7 +3,7 @@
 ghost use Rattle.std.specs.Prelude.{◌≡◌, ◌∷◌, IfOk};
 
 use crate::let_go::LetGo;
-use c_tree::{Declarator, Expr, Stmt};
+use c_tree::{Declarator, Expr, Stmt, TypedExpr, TypedStmt};
 use sqlite_items::{Boxed, Items};
 use std::alloc::{AllocError, Global};
 
@@ -28,6 +28,18 @@ impl IntoBox for Declarator {
 
 impl IntoBox for Stmt {
     fn boxed(alloc: Global, node: Stmt) -> Result<Boxed<Stmt>, AllocError> {
+        Boxed::new(alloc, node)
+    }
+}
+
+impl IntoBox for TypedExpr {
+    fn boxed(alloc: Global, node: TypedExpr) -> Result<Boxed<TypedExpr>, AllocError> {
+        Boxed::new(alloc, node)
+    }
+}
+
+impl IntoBox for TypedStmt {
+    fn boxed(alloc: Global, node: TypedStmt) -> Result<Boxed<TypedStmt>, AllocError> {
         Boxed::new(alloc, node)
     }
 }

@@ -3,6 +3,7 @@
 ghost use Rattle.std.specs.Prelude.{◌≡◌, IfOk, IfErr, Ok, Err};
 
 use sqlite_items::Boxed;
+use std::alloc::AllocError;
 
 /// A value that its own crate lets go. `Drop` alone would have each crate that holds one prove how each of its parts is freed.
 pub trait LetGo {
@@ -39,6 +40,22 @@ impl<A: LetGo, B: LetGo, C: LetGo> LetGo for (A, B, C) {
         a.let_go();
         b.let_go();
         c.let_go();
+    }
+}
+
+/// Both parts, if both were made. Else the other one is let go.
+pub fn pair<A: LetGo, B: LetGo>(
+    first: Result<A, AllocError>,
+    second: Result<B, AllocError>,
+) -> Result<(A, B), AllocError>
+    ensures { IfOk result (λ x. (first ≡ Ok x.0) × (second ≡ Ok x.1)) }
+{
+    match first {
+        Ok(first) => both(first, second),
+        Err(fault) => {
+            second.ok().let_go();
+            Err(fault)
+        }
     }
 }
 

@@ -2,9 +2,10 @@
 
 ghost use Rattle.std.specs.Prelude.{◌≡◌, false, slice_get, IsSomeAnd, IsTrue, ◌↔◌};
 
-use c_layout::{CType, Layout, LayoutFault, Member, TagDef, Tags, layout_of, offset_of};
+use c_layout::{CType, Layout, LayoutFault, Member, TagDef, Tags, depths_of, layout_of, offset_of};
 use fc_base::{NoMemory, Text, Width};
-use sqlite_items::{Boxed, Items};
+use shared_values::Shared;
+use sqlite_items::Items;
 use std::alloc::Global;
 use std::process::Abort;
 use std::test::Fail;
@@ -52,7 +53,7 @@ fn base_type(base: Base) -> CType {
 }
 
 fn derived_type(alloc: Global, of: CType, derivation: Derivation) -> Result<CType, NoMemory> {
-    let of = Boxed::new(alloc, of)?;
+    let of = Shared::new(alloc, of)?;
     Ok(match derivation {
         Derivation::Pointer => CType::Ptr(of),
         Derivation::Array(count) => CType::Array(of, count),
@@ -401,5 +402,33 @@ fn a_tag_completed_later(rt: HostRuntime) -> Result<(), Fail> {
     let asserted = assert_nodes(&rt, alloc, &mut tags);
     drop(tags);
     asserted?;
+    Ok(())
+}
+
+/// A pointer that is 400 deep.
+fn deep_pointer(alloc: Global) -> Result<CType, NoMemory> {
+    let mut ctype = CType::Void;
+    for _ in 0..400 {
+        ctype = derived_type(alloc, ctype, Derivation::Pointer)?;
+    }
+    Ok(ctype)
+}
+
+/// Half a million mentions of a deep type share its parts.
+#[test]
+fn deep_types_are_shared(rt: HostRuntime) -> Result<(), NoMemory> {
+    let alloc = rt.alloc();
+    let tags = Tags::new(alloc);
+    let ctype = deep_pointer(alloc)?;
+    assert!(rt; depths_of(&tags, &ctype).plain == 400);
+    let mut mentions = Items::new(alloc);
+    for _ in 0..500_000 {
+        mentions.push(ctype.share()?)?;
+    }
+    let is_shared = match mentions.as_slice().last() {
+        Some(mention) => mention.is_same(&ctype),
+        None => false,
+    };
+    assert!(rt; is_shared);
     Ok(())
 }

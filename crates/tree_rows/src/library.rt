@@ -1,7 +1,10 @@
 //! The functions that the headers declare, with the modes of their checked forms, and the types of C that they have.
 
-use c_layout::{HeaderNumber, Tags, layout_of, lib_by_name, lib_ctype, lib_mode};
-use c_library::LibType;
+use c_layout::{
+    CType, HeaderNumber, Tags, layout_of, lib_by_name, lib_ctype, lib_mode, lib_parameters,
+    lib_result,
+};
+use c_library::{LibFn, LibType};
 use fc_base::{Mode, NoMemory};
 use std::alloc::Global;
 use std::process::Abort;
@@ -107,6 +110,24 @@ fn assert_type(
 fn types_of_functions(rt: HostRuntime) -> Result<(), NoMemory> {
     for &(of, size) in TYPES {
         assert_type(&rt, rt.alloc(), of, size)?;
+    }
+    Ok(())
+}
+
+/// Each of these functions with the number of its parameters, and whether it gives a pointer.
+const SIGNATURES: &[(LibFn, usize, bool)] = &[
+    (LibFn::Abort, 0, false),
+    (LibFn::Snprintf, 3, false),
+    (LibFn::Strchr, 2, true),
+];
+
+#[test]
+fn signatures_of_functions(rt: HostRuntime) -> Result<(), NoMemory> {
+    for &(f, count, gives_pointer) in SIGNATURES {
+        let parameters = lib_parameters(rt.alloc(), f)?;
+        assert!(rt; parameters.len() == count);
+        let result = lib_result(rt.alloc(), f)?;
+        assert!(rt; matches!(result, CType::Ptr(_)) == gives_pointer);
     }
     Ok(())
 }
