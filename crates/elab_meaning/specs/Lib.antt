@@ -1,0 +1,14 @@
+pub mod Addresses
+pub mod Calls
+pub mod Conversions
+pub mod Declarations
+pub mod Ends
+pub mod Expressions
+pub mod Externals
+pub mod Initialisers
+pub mod Operators
+pub mod Parts
+pub mod Scope
+pub mod Statements
+pub mod Trees
+pub mod Typing
