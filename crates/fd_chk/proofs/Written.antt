@@ -1,12 +1,12 @@
 -- What calls that write come to over bytes.
-use Rattle.std.proofs.Common.{◌≡◌, ◌≢◌, ℕ, ◌+◌, ◌-◌, ◌%◌, ◌^◌, Bool, true, false, eqb, List, [], ◌∷◌, ◌++◌, length, map, Option, None, Some, Result, Ok, Err, refl, sym, ap, ◌∙◌, subst, append-nil, append_assoc, arith}
+use Rattle.std.proofs.Common.{◌≡◌, ◌≢◌, ℕ, ◌+◌, ◌-◌, Bool, true, false, List, [], ◌∷◌, ◌++◌, length, Option, Result, Ok, Err, refl, sym, ap, ◌∙◌, subst, append-nil, append_assoc, arith}
 use Rattle.std.specs.Prelude.{if◌then◌else◌, slice_range}
 use Rattle.std.proofs.Math.Nat.{add-zero}
-use Rattle.fc_base.specs.Outside.{IsFront, Appends, AppendsFront, Rose}
+use Rattle.fc_base.specs.Outside.{Appends, AppendsFront, Rose}
 use Rattle.run_meaning.specs.Runs.{on_descriptor}
 use Rattle.run_meaning.specs.Objects.{StreamState}
 use Rattle.run_meaning.proofs.Moved.{appends-append}
-use Rattle.library_meaning.specs.Scan.{Found, and_then}
+use Rattle.library_meaning.specs.Scan.{and_then}
 use Rattle.library_meaning.specs.Rows.{Answer, answer, Given, Count, run, showing}
 use Rattle.library_meaning.specs.Table.{write_on, puts, int_of, no_limit}
 use Rattle.library_meaning.specs.OnBytes.{on_bytes, number_of, quiet, valid_then}
@@ -35,10 +35,6 @@ writes_some args m r descriptor bytes given old new is some front rose =
     subst (λ x. Writes args x (Err host.SinkFault) old new) (sym is)
     (subst (λ b. b ≢ []) (sym (moved_is descriptor bytes)) some, subst (λ b. AppendsFront b old.told new.told) (sym (moved_is descriptor bytes)) front, rose)
 
--- the row stops, and nothing was written
-pub writes_none : (args : List ℕ) (r : Result (Answer (List ℕ)) HostStop) (stop : HostStop) (old : StreamState) → r ≡ Err stop → Writes args r (Err stop) old old
-writes_none args r stop old is = subst (λ x. Writes args x (Err stop) old old) (sym is) (refl, refl)
-
 -- the row of `write`
 pub write_is : (m : List ℕ) (descriptor s n : ℕ) → run (on_bytes (descriptor ∷ s ∷ n ∷ [])) (write_on descriptor) m quiet
     ≡ (if are_valid s n then Ok (answer m (showing quiet descriptor (bytes_at m s n)) (Count n)) else Err host.BadAddress)
@@ -56,9 +52,6 @@ pub puts_is : (m : List ℕ) (s len : ℕ) (stop : Option ℕ) → byte_scan 0 m
     → run (on_bytes (s ∷ [])) puts m quiet ≡ Ok (answer m (showing quiet 1 (bytes_at m s len ++ 10 ∷ [])) (Count (int_of (len + 1))))
 puts_is m s len stop scan long =
     rw (add-zero s, scan) (ap (λ k. Ok (answer m (showing quiet 1 (bytes_at m s len ++ 10 ∷ [])) (Count (int_of (k + 1))))) long)
-
-pub puts_stops : (m : List ℕ) (s : ℕ) (stop : HostStop) → byte_scan 0 m s no_limit ≡ Err stop → run (on_bytes (s ∷ [])) puts m quiet ≡ Err stop
-puts_stops m s stop scan = rw (add-zero s, scan) refl
 
 -- a front of the first part is a front of the whole, and so is the first part with a front of the second
 pub front_of_first : (a b : List ℕ) (x y : Option (List ℕ)) → AppendsFront a x y → AppendsFront (a ++ b) x y

@@ -1,6 +1,6 @@
 //! Calls that write.
 
-ghost use Rattle.std.specs.Prelude.{◌≡◌, ◌∷◌, ℕ, List, [], length};
+ghost use Rattle.std.specs.Prelude.{◌≡◌, ◌∷◌, ℕ, ◌≤◌, List, [], length};
 ghost use Rattle.run_meaning.specs.Objects.{stream};
 ghost use Rattle.library_meaning.specs.Rows.{run};
 ghost use Rattle.library_meaning.specs.Table as table;
@@ -16,9 +16,10 @@ use library_meaning::HostStop;
 /// has no valid address, and then nothing is written; `SinkFault` where the sink failed.
 pub fn write_c<S: Sink>(mem: &[u8], sink: &mut S, s: u64, n: u64) -> Result<u64, HostStop>
     requires { length mem.now ≡ memory_size }
-    ensures { (descriptor : ℕ) → Writes (descriptor ∷ s ∷ n ∷ [])
+    ensures row { (descriptor : ℕ) → Writes (descriptor ∷ s ∷ n ∷ [])
         (run (on_bytes (descriptor ∷ s ∷ n ∷ [])) (table.write_on descriptor) mem.now quiet) result
         (stream (S.written sink.old) (S.count sink.old)) (stream (S.written sink.new) (S.count sink.new)) }
+    ensures grew { S.count sink.old ≤ S.count sink.new }
 {
     if !is_valid(s, n) {
         return Err(HostStop::BadAddress);
@@ -35,8 +36,9 @@ pub fn write_c<S: Sink>(mem: &[u8], sink: &mut S, s: u64, n: u64) -> Result<u64,
 
 /// `putchar` of `c` as an unsigned character (C11 7.21.7.8): gives that character. `SinkFault` where the sink failed.
 pub fn putchar_c<S: Sink>(sink: &mut S, c: u64) -> Result<u64, HostStop>
-    ensures { (memory : List ℕ) → Writes (c ∷ []) (run (on_bytes (c ∷ [])) table.putchar memory quiet) result
+    ensures row { (memory : List ℕ) → Writes (c ∷ []) (run (on_bytes (c ∷ [])) table.putchar memory quiet) result
         (stream (S.written sink.old) (S.count sink.old)) (stream (S.written sink.new) (S.count sink.new)) }
+    ensures grew { S.count sink.old ≤ S.count sink.new }
 {
     let byte = (c % 256) as u8;
     match sink.write(&[byte]) {
@@ -49,8 +51,9 @@ pub fn putchar_c<S: Sink>(sink: &mut S, c: u64) -> Result<u64, HostStop>
 /// to the NUL has no valid address, and then nothing is written; `SinkFault` where the sink failed.
 pub fn puts_c<S: Sink>(mem: &[u8], sink: &mut S, s: u64) -> Result<u64, HostStop>
     requires { length mem.now ≡ memory_size }
-    ensures { Writes (s ∷ []) (run (on_bytes (s ∷ [])) table.puts mem.now quiet) result
+    ensures row { Writes (s ∷ []) (run (on_bytes (s ∷ [])) table.puts mem.now quiet) result
         (stream (S.written sink.old) (S.count sink.old)) (stream (S.written sink.new) (S.count sink.new)) }
+    ensures grew { S.count sink.old ≤ S.count sink.new }
 {
     let text = find(mem, s, u64::MAX, 0)?;
     let start = s as usize;

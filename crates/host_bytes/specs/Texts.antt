@@ -1,5 +1,5 @@
 -- What a scan for a byte has found, as the code hands it on.
-use Rattle.std.specs.Prelude.{◌≡◌, ℕ, ◌+◌, ◌≤◌, Bool, true, List, [], ◌∷◌, ◌++◌, length, Option, None, Some, Result, Ok, Err, eqb, if◌then◌else◌}
+use Rattle.std.specs.Prelude.{◌≡◌, ℕ, ◌+◌, ◌≤◌, true, List, [], ◌∷◌, ◌++◌, length, None, Some, Result, Ok, Err, eqb, if◌then◌else◌}
 use Rattle.library_meaning.specs.Scan.{Found, scan}
 use Rattle.library_meaning.specs.OnBytes.{bytes_from, byte_look}
 use Rattle.library_meaning.specs.Memory.{bytes_at, are_valid, memory_size}

@@ -1,6 +1,7 @@
 pub mod Memory
 pub mod OnBytes
 pub mod OnStreams
+pub mod Prints
 pub mod Rows
 pub mod Scan
 pub mod Table

@@ -1,11 +1,11 @@
 -- What a call on real streams does, by its row: what is taken and written, and what it leaves where a stream fails. This
 -- project's own.
-use Rattle.std.specs.Prelude.{◌≡◌, ◌≢◌, ℕ, List, [], ◌∷◌, map, Result, Ok, Err}
-use Rattle.fc_base.specs.Outside.{IsFront, Takes, Appends, AppendsFront, Rose}
-use Rattle.run_meaning.specs.Runs.{Shown}
-use Rattle.run_meaning.specs.Worlds.{World}
+use Rattle.std.specs.Prelude.{◌≡◌, ◌≢◌, ℕ, List, [], ◌∷◌, ◌++◌, map, Option, None, Result, Ok, Err}
+use Rattle.fc_base.specs.Outside.{IsAtEnd, Takes, Appends, AppendsFront, Rose}
+use Rattle.run_meaning.specs.Runs.{Shown, on_descriptor}
+use Rattle.run_meaning.specs.Worlds.{AreBytes, World}
 use Rattle.run_meaning.specs.Objects.{StreamState, Tells}
-use Rattle.library_meaning.specs.Rows.{Answer}
+use Rattle.library_meaning.specs.Rows.{Answer, Given, answer}
 use Rattle.library_meaning.specs.OnBytes.{number_of}
 use Rattle.library_meaning.specs.declared.stops.HostStop.{HostStop}
 use Rattle.library_meaning.specs.declared.stops.HostStop.TheVariants as host
@@ -26,33 +26,46 @@ Writes args (Ok a) (Err host.BadFormat) old new = ⊥
 Writes args (Ok a) (Err host.InputFault) old new = ⊥
 Writes args (Err e) result old new = (result ≡ Err e) × (new ≡ old)
 
--- a world with these bytes before it
-abbrev pub offering : List ℕ → World
-offering bytes = record { input = record { bytes = bytes; answers = [] }; shown = [] }
+-- a world with these bytes before what it has to take, and one in which these bytes were taken
+abbrev pub offering : List ℕ → World → World
+offering bytes w = record w { input = record w.input { bytes = bytes ++ w.input.bytes } }
 
--- a call that takes did what its row does on the bytes that were left, of which it took what the row takes
+abbrev pub having_taken : List ℕ → World → World
+having_taken bytes w = record w { shown = w.shown ++ on_descriptor 0 bytes }
+
+-- bytes that were taken from a source: the first of those that it told were left. A source that told nothing tells at most that
+-- it has ended
+pub record HasTaken (bytes : List ℕ) (old new : StreamState) : Type 0 where
+  pub are_bytes : AreBytes bytes
+  pub taken : Takes bytes old.told new.told
+  pub untold : old.told ≡ None → IsAtEnd new.told
+
+-- a call that takes: with whatever is left behind the bytes that it took, its row takes just these, leaves this memory and gives
+-- this number. So a row that takes fewer than it asks for met the end
 pub record DidTake (args : List ℕ) (row : World → Result (Answer (List ℕ)) HostStop) (memory : List ℕ) (n : ℕ) (old new : StreamState) : Type 0 where
   pub bytes : List ℕ
-  pub left : Tells old.told bytes
+  pub has : HasTaken bytes old new
+  pub given : Given
+  pub gives : n ≡ number_of args given
+  pub did : (rest : World) → Tells new.told rest.input.bytes → row (offering bytes rest) ≡ Ok (answer memory (having_taken bytes rest) given)
+
+-- what a row takes that takes these bytes and maybe more
+pub record TakesFrom (bytes : List ℕ) (w : World) (ran : Result (Answer (List ℕ)) HostStop) : Type 0 where
   pub answer : Answer (List ℕ)
-  pub ran : row (offering bytes) ≡ Ok answer
-  pub gives : n ≡ number_of args answer.given
-  pub stored : memory ≡ answer.memory
-  pub taken : Takes (moved answer.world.shown) old.told new.told
+  pub is : ran ≡ Ok answer
+  pub more : List ℕ
+  pub shown : answer.world.shown ≡ w.shown ++ on_descriptor 0 (bytes ++ more)
 
 -- the source failed, which comes only where the row takes a byte where one is left: a front of what the row takes was taken
 pub record FailedToTake (row : World → Result (Answer (List ℕ)) HostStop) (old new : StreamState) : Type 0 where
   pub bytes : List ℕ
-  pub left : Tells old.told bytes
-  pub answer : Answer (List ℕ)
-  pub ran : row (offering bytes) ≡ Ok answer
-  pub asks : (byte : ℕ) → (a : Answer (List ℕ)) → row (offering (byte ∷ [])) ≡ Ok a → moved a.world.shown ≡ byte ∷ []
-  pub front : List ℕ
-  pub is_front : IsFront front (moved answer.world.shown)
-  pub taken : Takes front old.told new.told
+  pub has : HasTaken bytes old new
   pub rose : Rose old.faults new.faults
+  pub did : (rest : World) → Tells new.told rest.input.bytes → TakesFrom bytes rest (row (offering bytes rest))
+  pub asks : (byte : ℕ) (w : World) → TakesFrom (byte ∷ []) w (row (offering (byte ∷ []) w))
 
--- a call that takes bytes from a source into memory, which is this before and this after the call
+-- a call that takes bytes from a source into memory, which is this before and this after the call. Where its row stops it stops
+-- so, whatever is left, and memory and the source are as they were
 abbrev pub TakesAs : List ℕ → (List ℕ → World → Result (Answer (List ℕ)) HostStop) → List ℕ × List ℕ → Result ℕ HostStop → StreamState → StreamState → Type 0
 TakesAs args row memory (Ok n) old new = DidTake args (row memory.0) memory.1 n old new
 TakesAs args row memory (Err host.InputFault) old new = FailedToTake (row memory.0) old new

@@ -1,13 +1,12 @@
 -- What the shapes of rows come to over bytes.
-use Rattle.std.proofs.Common.{◌≡◌, ℕ, zero, suc, ◌+◌, ◌-◌, ◌<◌, ◌≤◌, Bool, true, false, ◌&&◌, ◌||◌, eqb, leb, ltb, min, List, [], ◌∷◌, ◌++◌, length, take, drop, replicate, Option, None, Some, Result, Ok, Err, refl, sym, ap, ◌∙◌, subst, arith, append_assoc, length-append}
+use Rattle.std.proofs.Common.{◌≡◌, ℕ, ◌+◌, ◌-◌, ◌≤◌, Bool, true, false, ltb, List, [], ◌∷◌, ◌++◌, length, replicate, Option, Some, Result, Ok, Err, refl, sym, ap, ◌∙◌, subst, arith, length-append}
 use Rattle.std.specs.Prelude.{if◌then◌else◌}
 use Rattle.std.proofs.Math.Nat.{add-zero}
-use Rattle.std.proofs.lemmas.Bool.{leb-true, eqb-true}
-use Rattle.std.proofs.lemmas.List.{take-append-le, take_at, drop_at, drop-drop, length-take, length-drop, drop-append-le, length-replicate}
+use Rattle.std.proofs.lemmas.List.{length-replicate}
 use Rattle.run_meaning.specs.Worlds.{World}
 use Rattle.library_meaning.specs.Scan.{Found, and_then}
-use Rattle.library_meaning.specs.Memory.{put, are_valid, memory_size, first_valid, bytes_at}
-use Rattle.library_meaning.specs.Rows.{Row, Check, Text, Point, Gives, Behind, Given, Answer, answer, run, Stretch, stretch}
+use Rattle.library_meaning.specs.Memory.{put, are_valid, memory_size, bytes_at}
+use Rattle.library_meaning.specs.Rows.{Row, Text, Point, Gives, Behind, Given, Answer, answer, run, Stretch, stretch}
 use Rattle.library_meaning.specs.Table.{putting, appended, within, ended, strncpy, nul, cells_read, pointers, both_for}
 use Rattle.library_meaning.specs.OnBytes.{on_bytes, address, valid_then, quiet, Does}
 use Rattle.host_bytes.proofs.Shapes.{length-bytes_at}

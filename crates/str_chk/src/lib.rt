@@ -1,16 +1,19 @@
 //! The calls of the library that go up to a NUL.
 #![tactic(auto)]
 
-ghost use Rattle.std.specs.Prelude.{◌≡◌, ℕ, ◌+◌, ◌≤◌, ◌∷◌, [], true, length, List};
+ghost use Rattle.std.specs.Prelude.{◌≡◌, ℕ, ◌+◌, ◌≤◌, ◌∷◌, ◌++◌, [], true, length, List};
 ghost use Rattle.library_meaning.specs.Rows.{run};
 ghost use Rattle.library_meaning.specs.Table as table;
 ghost use Rattle.library_meaning.specs.OnBytes.{on_bytes, Does, Reads, quiet};
 ghost use Rattle.library_meaning.specs.Memory.{are_valid, memory_size};
-ghost use Rattle.str_chk.specs.Pairs.{both_scan, order_found};
+ghost use Rattle.str_chk.specs.Pairs.{both_scan, order_found, order_or};
 
-use host_bytes::{MEMORY_SIZE, copy, copy_and_fill, find, is_valid};
+use host_bytes::{MEMORY_SIZE, compare, copy, copy_and_fill, find, is_valid};
 use library_meaning::HostStop;
-use memchr::memchr2;
+use memchr::{memchr, memchr2};
+
+/// How many bytes of two texts are compared at once.
+const BLOCK: usize = 256;
 
 /// `strlen` (C11 7.24.6.3): how many bytes stand before the NUL. `BadAddress` where one of these or the NUL has no valid
 /// address.
@@ -120,19 +123,31 @@ pub fn strncat_c(mem: &mut [u8], d: u64, s: u64, n: u64, size: u64) -> Result<u6
     append(mem, d, s, head.len, n.min(size - head.len), size)
 }
 
+/// The order of two texts that begin with these bytes: told where they differ or end here.
+fn compare_parts(left: &[u8], right: &[u8]) -> Option<u64>
+    requires { length left.now ≡ length right.now }
+    ensures { (xs ys : List ℕ) → order_found (both_scan (left.now ++ xs) (right.now ++ ys)) ≡ order_or result xs ys }
+{
+    match memchr(0, left) {
+        Some(k) => Some(compare(&left[..k + 1], &right[..k + 1])),
+        None => {
+            let order = compare(left, right);
+            if order == 0 { None } else { Some(order) }
+        }
+    }
+}
+
 /// The order of two texts, by the first bytes that differ, up to a NUL.
 fn compare_texts(left: &[u8], right: &[u8]) -> Result<u64, HostStop>
     ensures { result ≡ order_found (both_scan left.now right.now) }
 {
     let most = left.len().min(right.len());
-    for i in 0..most {
-        let a = left[i];
-        let b = right[i];
-        if a != b {
-            return Ok(if a < b { u64::MAX } else { 1 });
-        }
-        if a == 0 {
-            return Ok(0);
+    let mut at = 0;
+    while at < most {
+        let end = at + (most - at).min(BLOCK);
+        match compare_parts(&left[at..end], &right[at..end]) {
+            Some(order) => return Ok(order),
+            None => at = end,
         }
     }
     Err(HostStop::BadAddress)

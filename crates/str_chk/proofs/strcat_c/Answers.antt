@@ -1,4 +1,4 @@
-use Rattle.std.proofs.Common.{ℕ, ◌-◌, sym, ◌∙◌, ap, subst, Ok, ◌∷◌, []}
+use Rattle.std.proofs.Common.{◌-◌, sym, ◌∙◌, ap, subst, Ok, ◌∷◌, []}
 use Rattle.std.proofs.Math.Nat.{add-zero}
 use Rattle.std.proofs.lemmas.Bool.{not-false}
 use Rattle.library_meaning.specs.Table.{appended, pointers}

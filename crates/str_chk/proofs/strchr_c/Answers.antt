@@ -1,5 +1,4 @@
-use Rattle.std.proofs.Common.{◌≡◌, ◌+◌, true, false, sym, ap, ◌∙◌, subst, refl, Ok, Err, inl, ◌∷◌, [], arith}
-use Rattle.std.specs.Prelude.{◌≢◌}
+use Rattle.std.proofs.Common.{◌≡◌, ◌+◌, true, sym, ap, ◌∙◌, refl, Ok, ◌∷◌, []}
 use Rattle.library_meaning.specs.Memory.{are_valid}
 use Rattle.library_meaning.specs.declared.stops.HostStop.TheVariants as host
 use Rattle.str_chk.proofs.Characters.{finds, leaves, reads_well, place_there, place_nowhere}

@@ -1,5 +1,4 @@
-use Rattle.std.proofs.Common.{◌≡◌, true, sym, ◌∙◌, ap, refl, ◌∷◌, [], Ok, Err, ltb, false}
-use Rattle.std.specs.Prelude.{if◌then◌else◌}
+use Rattle.std.proofs.Common.{◌≡◌, true, sym, ◌∙◌, refl, ◌∷◌, [], ltb, false}
 use Rattle.std.proofs.Math.Nat.{add-zero}
 use Rattle.std.proofs.lemmas.Bool.{le-ltb}
 use Rattle.library_meaning.specs.Memory.{are_valid}

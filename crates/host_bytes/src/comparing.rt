@@ -1,0 +1,18 @@
+//! Bytes that are compared.
+
+ghost use Rattle.std.specs.Prelude.{◌≡◌, length};
+ghost use Rattle.library_meaning.specs.Table.{order_of};
+
+use std::cmp::Ordering;
+
+/// -1, 0 or 1 by the first unequal bytes of two lists of one length.
+pub fn compare(left: &[u8], right: &[u8]) -> u64
+    requires { length left.now ≡ length right.now }
+    ensures { result ≡ order_of left.now right.now }
+{
+    match left.cmp(&right) {
+        Ordering::Less => u64::MAX,
+        Ordering::Equal => 0,
+        Ordering::Greater => 1,
+    }
+}

@@ -1,0 +1,6 @@
+//! The prints of the library.
+#![tactic(auto)]
+
+mod printing;
+
+pub use printing::print_out;

@@ -1,0 +1,4 @@
+pub mod Formats
+pub mod Padded
+pub mod Radix
+pub mod Rows

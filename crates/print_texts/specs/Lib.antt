@@ -1,0 +1,5 @@
+pub mod Numbers
+pub mod Paddings
+pub mod Parts
+pub mod Printing
+pub mod Stretches
