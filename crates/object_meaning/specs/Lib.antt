@@ -1,0 +1,9 @@
+pub mod Cells
+pub mod Comparisons
+pub mod Laws
+pub mod Memory
+pub mod Objects
+pub mod OnObjects
+pub mod Provenance
+pub mod Sizes
+pub mod Touches

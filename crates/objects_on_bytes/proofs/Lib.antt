@@ -1,0 +1,6 @@
+mod Acts
+mod Bytewise
+mod Follow
+mod RowLaws
+mod Stores
+mod Whole

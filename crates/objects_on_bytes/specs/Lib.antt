@@ -1,0 +1,4 @@
+pub mod Calls
+pub mod Relation
+pub mod Rows
+pub mod Tables

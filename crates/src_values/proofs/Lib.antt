@@ -1,0 +1,7 @@
+mod Marked
+mod Numbers
+mod Pointers
+mod Putting
+mod Spots
+mod Storing
+mod Values

@@ -1,0 +1,5 @@
+pub mod Numbers
+pub mod Rests
+pub mod Seen
+pub mod Spots
+pub mod View

@@ -1,0 +1,13 @@
+//! The memory of the plain meaning: objects, the cells in them, and pointers with what is known of the bytes behind them.
+#![tactic(auto)]
+
+mod cells;
+mod loads;
+mod memory;
+mod moves;
+mod objects;
+mod sizes;
+mod stores;
+
+pub use memory::Memory;
+pub use object_meaning::{Cell, Ptr, PtrValue, Tag};

@@ -1,0 +1,256 @@
+//! Memory as objects.
+
+ghost use Rattle.std.specs.Prelude.{◌≡◌, ◌+◌, ◌<◌, ◌≤◌, ◌^◌, length, map, IfOk, OnOk, OnErr, true, false, []};
+ghost use Rattle.fc_base.specs.Widths.{width_bytes};
+ghost use Rattle.object_meaning.specs.Memory.{load, move_by, store, store_pointer};
+ghost use Rattle.object_meaning.specs.Objects.{is_live, size_at, begun, add, finish, fill};
+ghost use Rattle.object_meaning.specs.Provenance.{IsPointer};
+ghost use Rattle.object_meaning.specs.Sizes.{size_of, true_size};
+ghost use Rattle.object_meaning.specs.Touches.{is_dead};
+ghost use Rattle.src_values.specs.Numbers.{Changes};
+ghost use Rattle.src_values.specs.Spots.{spot_for};
+
+use crate::loads::number_at;
+use crate::moves::{moved_tag, moved_within};
+use crate::objects::Object;
+use crate::sizes::{bound_size, fits, rest_of, unknown_size};
+use crate::stores::{store_bytes, store_place};
+use fc_base::{Mode, NoMemory, UndefKind, Width};
+use object_meaning::{Cell, Ptr, PtrValue, Tag};
+use std::alloc::Global;
+use std::marker::Model;
+
+/// Where an operation's bytes begin.
+#[derive(Clone, Copy)]
+struct Spot {
+    object: u64,
+    start: u64,
+}
+
+/// Objects by their numbers. All memory of an object is taken where it is added.
+#[derive(Drop)]
+pub struct Memory {
+    alloc: Global,
+    objects: Vec<Object>,
+}
+
+impl Model for Memory {
+    ghost use Rattle.std.specs.Prelude.{List};
+    ghost use Rattle.object_meaning.specs.Memory.{IsMemory};
+    ghost use Rattle.object_meaning.specs.Objects.{Object as PlainObject};
+
+    ghost Value = { List PlainObject };
+
+    ghost view = { λ m. m.objects.items };
+
+    ghost invariant = { λ m. IsMemory m.objects.items };
+}
+
+impl Memory {
+    /// No objects.
+    pub fn new(alloc: Global) -> Memory
+        ensures { result ≡ [] }
+    {
+        Memory {
+            alloc,
+            objects: Vec::new(alloc),
+        }
+    }
+
+    /// One more object, which lives. Its number is how many there were before.
+    pub fn add(&mut self, size: u64, writable: bool, zeroed: bool) -> Result<u64, NoMemory>
+        requires { size ≤ 2 ^ 32 }
+        ensures added { IfOk result (λ number. (number ≡ length self.old) × (self.new ≡ add self.old (begun size writable zeroed))) }
+        ensures no_memory { OnErr result (self.new ≡ self.old) }
+    {
+        let number = self.objects.len() as u64;
+        let object = Object::begun(self.alloc, size as usize, writable, zeroed)?;
+        self.objects.push(object)?;
+        Ok(number)
+    }
+
+    /// Ends an object.
+    pub fn finish(&mut self, object: u64)
+        requires { is_live self.old object ≡ true }
+        ensures { self.new ≡ finish self.old object }
+    {
+        self.objects[object as usize] = Object::ended(self.alloc);
+    }
+
+    /// Whether an object lives.
+    fn is_live(&self, object: u64) -> bool
+        ensures { result ≡ is_live self.now object }
+    {
+        match self.objects.get(object as usize) {
+            Some(found) => found.is_live(),
+            None => false,
+        }
+    }
+
+    /// How many bytes an object has.
+    fn size_at(&self, object: u64) -> u64
+        ensures { result ≡ size_at self.now object }
+    {
+        match self.objects.get(object as usize) {
+            Some(found) => found.size() as u64,
+            None => 0,
+        }
+    }
+
+    /// Where so many bytes lie that an operation reads or writes, one at least, or why it is undefined.
+    fn reach(&self, at: PtrValue, count: u64, written: bool) -> Result<Spot, UndefKind>
+        requires some { 0 < count }
+        requires few { count ≤ 2 ^ 32 }
+        requires pointer { IsPointer self.now at }
+        ensures { result ≡ spot_for self.now written at count }
+    {
+        let PtrValue::At(place) = at else {
+            return Err(UndefKind::NullPointer);
+        };
+        let Some(object) = self.objects.get(place.object as usize) else {
+            return Err(UndefKind::DeadObject);
+        };
+        if !object.is_live() {
+            return Err(UndefKind::DeadObject);
+        }
+        let start = place.offset.unsigned_abs();
+        if !fits(object.size() as u64, start, count) {
+            return Err(UndefKind::OutOfObject);
+        }
+        if written && !object.is_writable() {
+            return Err(UndefKind::ReadOnly);
+        }
+        Ok(Spot {
+            object: place.object,
+            start,
+        })
+    }
+
+    /// The bytes behind a pointer, in truth.
+    pub fn true_size(&self, mode: Mode, p: PtrValue) -> Option<u64>
+        requires { IsPointer self.now p }
+        ensures { result ≡ true_size self.now mode p }
+    {
+        match p {
+            PtrValue::Null { claim: _ } => None,
+            PtrValue::At(place) => {
+                if self.is_live(place.object) {
+                    Some(rest_of(mode, self.size_at(place.object), place.offset, place.end))
+                } else {
+                    None
+                }
+            }
+        }
+    }
+
+    /// The bytes behind a pointer as the rules tell them.
+    pub fn size_of(&self, mode: Mode, p: PtrValue) -> u64
+        requires pointer { IsPointer self.now p }
+        requires live { is_dead self.now p ≡ false }
+        ensures { result ≡ size_of self.now mode p }
+    {
+        match p {
+            PtrValue::Null { claim } => match claim {
+                Some(size) => size,
+                None => unknown_size(mode),
+            },
+            PtrValue::At(place) => match place.tag {
+                Tag::Known => rest_of(mode, self.size_at(place.object), place.offset, place.end),
+                Tag::Bound(remaining) => bound_size(mode, remaining),
+                Tag::Unknown => unknown_size(mode),
+            },
+        }
+    }
+
+    /// A pointer moved by so many bytes.
+    pub fn move_by(&self, p: PtrValue, delta: i64) -> Result<PtrValue, UndefKind>
+        requires { IsPointer self.now p }
+        ensures { result ≡ move_by self.now p delta }
+    {
+        match p {
+            PtrValue::Null { claim } => {
+                if delta == 0 {
+                    Ok(PtrValue::Null { claim })
+                } else {
+                    Err(UndefKind::NullPointer)
+                }
+            }
+            PtrValue::At(place) => {
+                if !self.is_live(place.object) {
+                    return Err(UndefKind::DeadObject);
+                }
+                match moved_within(self.size_at(place.object), place.offset, delta) {
+                    Some(offset) => Ok(PtrValue::At(Ptr {
+                        object: place.object,
+                        offset,
+                        end: place.end,
+                        tag: moved_tag(place.tag, delta),
+                    })),
+                    None => Err(UndefKind::BadArithmetic),
+                }
+            }
+        }
+    }
+
+    /// The number of a width, the lowest byte first.
+    pub fn load(&self, at: PtrValue, width: Width) -> Result<u64, UndefKind>
+        requires { IsPointer self.now at }
+        ensures { result ≡ load self.now at width }
+    {
+        let count = bytes(width);
+        match self.reach(at, count, false) {
+            Ok(spot) => number_at(
+                &self.objects[spot.object as usize],
+                spot.start as usize,
+                count as usize,
+            ),
+            Err(kind) => Err(kind),
+        }
+    }
+
+    /// Stores the low bytes of a number, the lowest first. What is undefined changes nothing.
+    pub fn store(&mut self, at: PtrValue, width: Width, value: u64) -> Result<(), UndefKind>
+        requires { IsPointer self.old at }
+        ensures { Changes (store self.old at width value) self.old self.new result }
+    {
+        let count = bytes(width);
+        match self.reach(at, count, true) {
+            Ok(spot) => {
+                let object = &mut self.objects[spot.object as usize];
+                store_bytes(object, spot.start as usize, count as usize, value);
+                Ok(())
+            }
+            Err(kind) => Err(kind),
+        }
+    }
+
+    /// Stores a pointer with all that is known of it, and null as eight zero bytes. What is undefined changes nothing.
+    pub fn store_ptr(&mut self, at: PtrValue, value: PtrValue) -> Result<(), UndefKind>
+        requires place { IsPointer self.old at }
+        requires pointer { IsPointer self.old value }
+        ensures { Changes (store_pointer self.old at value) self.old self.new result }
+    {
+        match self.reach(at, 8, true) {
+            Ok(spot) => {
+                let object = &mut self.objects[spot.object as usize];
+                store_place(object, spot.start as usize, value);
+                Ok(())
+            }
+            Err(kind) => Err(kind),
+        }
+    }
+}
+
+/// How many bytes a width has.
+fn bytes(width: Width) -> u64
+    ensures bytes { result ≡ width_bytes width }
+    ensures some { 0 < result }
+    ensures few { result ≤ 8 }
+{
+    match width {
+        Width::W1 => 1,
+        Width::W2 => 2,
+        Width::W4 => 4,
+        Width::W8 => 8,
+    }
+}
