@@ -1,7 +1,7 @@
 -- The heap's holes and blocks after a request and after a block is given back.
 use Rattle.std.proofs.Common.{◌≡◌, ◌≢◌, ℕ, ◌+◌, ◌<◌, ◌≤◌, ◌⊎◌, inl, inr, ⊎_elim, Bool, true, false, List, [], ◌∷◌, Option, Some, None, eqb, leb, refl, sym, ap, ◌∙◌, subst, arith, eqb-true, leb-true}
 use Rattle.std.specs.Prelude.{if◌then◌else◌}
-use Rattle.std.proofs.lemmas.Bool.{cases_lt, cases_eq, cond_both, eqb-false, leb-false}
+use Rattle.std.proofs.lemmas.Bool.{cases_lt, cases_eq, cond_both, eqb-false}
 use Rattle.bm_heap.specs.declared.holes.Hole.{Hole}
 use Rattle.bm_heap.specs.Heaps.{block_bytes, first_fit, take_from, give_to, Within, Free, heap_size, IsHeap, one_more, one_less}
 use Rattle.bm_heap.proofs.Fitting.{Taken, Given, take_is, give_is}
@@ -10,16 +10,6 @@ use Rattle.bm_heap.proofs.Fitting.{Taken, Given, take_is, give_is}
 abbrev pub NoneHolds : ℕ → List Hole → Type 0
 NoneHolds n [] = Unit {0}
 NoneHolds n (h ∷ hs) = (h.count < n) × NoneHolds n hs
-
--- there is no place exactly where no hole holds the bytes
-pub none_fits : (n : ℕ) (hs : List Hole) → first_fit n hs ≡ None → NoneHolds n hs
-none_fits n [] e = tt
-none_fits n (h ∷ hs) e = go (leb n h.count) refl e (none_fits n hs)
-  where
-    go : (t : Bool) → leb n h.count ≡ t → (if t then Some h.start else first_fit n hs) ≡ None → (first_fit n hs ≡ None
-        → NoneHolds n hs) → (h.count < n) × NoneHolds n hs
-    go true b f more = absurd (cc)
-    go false b f more = (leb-false _ _ b, more f)
 
 pub none_fits_only : (n : ℕ) (hs : List Hole) → NoneHolds n hs → first_fit n hs ≡ None
 none_fits_only n [] h = refl
@@ -34,9 +24,6 @@ no_common a n b k pn pk h =
     (λ (l : a < b). ⊎_elim (λ (g : b < a + n). absurd (h b (omega arith) (omega arith))) (λ (g : a + n ≤ b). inl g) (cases_lt b (a + n)))
     (λ (l : b ≤ a). ⊎_elim (λ (g : a < b + k). absurd (h a (omega arith) (omega arith))) (λ (g : b + k ≤ a). inr g) (cases_lt a (b + k)))
     (cases_lt a b)
-
-pub block_bytes_more : (n : ℕ) → n + 1 ≤ block_bytes n
-block_bytes_more n = omega arith
 
 -- the new block, or one of the old
 pub with_is : (blocks : ℕ → Option ℕ) (a n b k : ℕ) → one_more blocks a n b ≡ Some k → ((b ≡ a) × (k ≡ n)) ⊎ ((b ≢ a) × (blocks b ≡ Some k))
@@ -103,7 +90,8 @@ take_heap holes blocks n a i e = record { ordered = t.ordered; inside = inside; 
         go None f = refl
         go (Some k) f = absurd (i.taken a k a f (omega arith) (t.was a (omega arith)))
 
-    covered : (x : ℕ) → x < heap_size → Free (take_from (block_bytes n) holes) x ⊎ ((b : ℕ) × (k : ℕ) × (one_more blocks a n b ≡ Some k) × Within b (block_bytes k) x)
+    covered : (x : ℕ) → x < heap_size → Free (take_from (block_bytes n) holes) x
+        ⊎ ((b : ℕ) × (k : ℕ) × (one_more blocks a n b ≡ Some k) × Within b (block_bytes k) x)
     covered x l = ⊎_elim
         (λ (f : Free holes x). ⊎_elim (λ (w : Within a (block_bytes n) x). inr (a, n, with_same blocks a n, w)) (λ (g : Free (take_from
         (block_bytes n) holes) x). inl g) (t.kept x f))
@@ -111,13 +99,6 @@ take_heap holes blocks n a i e = record { ordered = t.ordered; inside = inside; 
         let ne : b.0 ≢ a = λ e. let f : Some b.1 ≡ None = sym b.2 ∙ ap blocks e ∙ new_free in absurd (cc f) in
         inr (b.0, b.1, with_other blocks a n b.0 b.1 b.2 ne, b.3))
         (i.covered x l)
-
--- the place of a request holds no block yet
-pub take_new : (holes : List Hole) (blocks : ℕ → Option ℕ) (n a b k : ℕ) → IsHeap holes blocks
-    → first_fit (block_bytes n) holes ≡ Some a → blocks b ≡ Some k → (a + block_bytes n ≤ b) ⊎ (b + block_bytes k ≤ a)
-take_new holes blocks n a b k i e f =
-    let t = take_is (block_bytes n) a 0 heap_size holes (omega arith) i.ordered e in
-    no_common a (block_bytes n) b (block_bytes k) (omega arith) (omega arith) (λ x v w. i.taken b k x f w (t.was x v))
 
 pub give_heap : (holes : List Hole) (blocks : ℕ → Option ℕ) (a n : ℕ) → IsHeap holes blocks → blocks a ≡ Some n
     → IsHeap (give_to a (block_bytes n) holes) (one_less blocks a)
@@ -138,7 +119,8 @@ give_heap holes blocks a n i e = record {
         let far = i.apart b k a n o.1 e o.0 in
         ⊎_elim (λ (h : Free holes x). i.taken b k x o.1 w h) (λ (v : Within a (block_bytes n) x). omega (arith, far, v, w)) (g.is x fr)
 
-    covered : (x : ℕ) → x < heap_size → Free (give_to a (block_bytes n) holes) x ⊎ ((b : ℕ) × (k : ℕ) × (one_less blocks a b ≡ Some k) × Within b (block_bytes k) x)
+    covered : (x : ℕ) → x < heap_size → Free (give_to a (block_bytes n) holes) x
+        ⊎ ((b : ℕ) × (k : ℕ) × (one_less blocks a b ≡ Some k) × Within b (block_bytes k) x)
     covered x l = ⊎_elim
         (λ (f : Free holes x). inl (g.old_is x f))
         (λ (b : (b : ℕ) × (k : ℕ) × (blocks b ≡ Some k) × Within b (block_bytes k) x). ⊎_elim
@@ -149,13 +131,3 @@ give_heap holes blocks a n i e = record {
         (λ (ne : b.0 ≢ a). inr (b.0, b.1, without_other blocks a b.0 b.1 b.2 ne, b.3))
         (cases_eq b.0 a))
         (i.covered x l)
-
--- the start: one hole and no blocks
-pub start_heap : IsHeap (record { start = 0; count = heap_size } ∷ []) (λ a. None)
-start_heap = record {
-  ordered = (omega arith, omega arith, omega arith, tt);
-  inside = λ a n e. absurd (cc);
-  apart = λ a n b k e f ne. absurd (cc);
-  taken = λ a n x e w f. absurd (cc);
-  covered = λ x l. inl (inl (omega arith));
-}

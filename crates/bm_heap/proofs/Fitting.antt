@@ -20,11 +20,6 @@ free_above lo hi [] x o f = absurd f
 free_above lo hi (h ∷ hs) x o (inl f) = omega (arith, o.0, f)
 free_above lo hi (h ∷ hs) x o (inr f) = let r = free_above (h.start + h.count + 1) hi hs x o.3 f in omega (arith, o.0, r)
 
-free_below : (lo hi : ℕ) (hs : List Hole) (x : ℕ) → Ordered lo hi hs → Free hs x → x < hi
-free_below lo hi [] x o f = absurd f
-free_below lo hi (h ∷ hs) x o (inl f) = omega (arith, o.2, f)
-free_below lo hi (h ∷ hs) x o (inr f) = free_below (h.start + h.count + 1) hi hs x o.3 f
-
 ordered_lower : (lo lo' hi : ℕ) (hs : List Hole) → lo' ≤ lo → Ordered lo hi hs → Ordered lo' hi hs
 ordered_lower lo lo' hi [] l o = tt
 ordered_lower lo lo' hi (h ∷ hs) l o = (omega (arith, o.0), o.1, o.2, o.3)

@@ -90,7 +90,8 @@ equal_is : (m n : ℕ) → m ≡ n → (m == n) ≡ true
 equal_is m n e = grind (arith, e)
 
 blocks_after : (holes holes' : List Hole) (sizes : List ℕ) (a v : ℕ) → a % 16 ≡ 0 → a / 16 < length sizes → (b : ℕ)
-    → block_at (record { holes = holes'; sizes = set sizes (a / 16) v }) b ≡ cond (b == a) (size_in v) (block_at (record { holes = holes; sizes = sizes }) b)
+    → block_at (record { holes = holes'; sizes = set sizes (a / 16) v }) b
+    ≡ cond (b == a) (size_in v) (block_at (record { holes = holes; sizes = sizes }) b)
 blocks_after holes holes' sizes a v aligned inside b = elim (cases_eq b a) [
   | inl same ↦
       let here : slice_index (set sizes (a / 16) v) (b / 16) ≡ v = ap (λ t. slice_index (set sizes (a / 16) v) (t / 16)) same

@@ -1,12 +1,15 @@
 -- Bytes that spell an image are accepted part by part, and give that image alone.
-use Rattle.std.proofs.Common.{◌≡◌, ℕ, zero, suc, ◌+◌, ◌*◌, ◌-◌, ◌^◌, ◌<◌, ◌≤◌, List, [], ◌∷◌, ◌++◌, length, Bool, true, false, ◌||◌, ◌&&◌, not, ◌==◌, nat_lt, cond, max, Some, None, refl, sym, ◌∙◌, ap, subst, arith, ◌⊎◌, inl, inr, take, drop, slice_index_or, lit<, append_assoc, codes}
+use Rattle.std.proofs.Common.{◌≡◌, ℕ, zero, suc, ◌+◌, ◌*◌, ◌-◌, ◌^◌, ◌<◌, ◌≤◌, List, [], ◌∷◌, ◌++◌, length, Bool, true, false, ◌||◌, ◌&&◌, not, ◌==◌, nat_lt, cond, max, Some, None, refl, sym, ◌∙◌, ap, subst, arith, ◌⊎◌, inl, inr, nat_le, is_some, Option, slice_get, option_map, take, drop, slice_index_or, lit<, append_assoc, codes}
 use Rattle.std.specs.List.{flat_map}
 use Rattle.std.specs.Int.{from_le_bytes, w32}
 use Rattle.std.proofs.lemmas.Nat.{from_le_bytes-to_le_bytes_4}
 use Rattle.std.proofs.lemmas.List.{length-append}
 use Rattle.std.proofs.Math.Nat.{mul-suc}
 use Rattle.std.proofs.Math.Seq.{take-append_seam, drop-append_seam}
-use Rattle.std.proofs.lemmas.Bool.{cases_lt, and_parts, and_from, lt-ltb, le-leb}
+use Rattle.std.proofs.lemmas.Bool.{cases_lt, and_parts, and_from, lt-ltb, le-leb, leb-true}
+use Rattle.std.proofs.lemmas.Option.{slice_get_within}
+use Rattle.c_library.specs.declared.functions.LibFn.{LibFn}
+use Rattle.c_library.specs.Library.{library, row_of, call_of}
 use Rattle.bm_isa.specs.declared.instructions.Instr.{Instr}
 use Rattle.bm_isa.specs.declared.instructions.Instr.TheVariants as instr
 use Rattle.bm_isa.specs.Encoding.{instruction_bytes}
@@ -15,7 +18,7 @@ use Rattle.bm_isa.proofs.Decoded.{same_bytes}
 use Rattle.bm_image.specs.declared.images.Bounds.{Bounds}
 use Rattle.bm_image.specs.declared.images.FnRec.{FnRec}
 use Rattle.bm_image.specs.declared.faults.ImageFault.{ImageFault}
-use Rattle.bm_image.specs.Images.{PlainImage, IsImage, IsFunction, function_at, end_of, bounds_of, host_takes, fits}
+use Rattle.bm_image.specs.Images.{PlainImage, IsImage, IsFunction, function_at, end_of, bounds_of, is_built, slots_of, call_takes, host_takes, fits}
 use Rattle.bm_image.specs.Spelling.{word, record_bytes, header_bytes, bm_image, SpellsImage}
 use Rattle.bm_image.specs.Parts.{Part, Record, Instruction, Accepts, Judges, all, next, refused, short, wrong, records, instructions, header_parts, image_parts, functions_count, code_count, data_count, entry_in, record_offset, code_offset, data_offset, record_at, records_at, functions_in, record_before, rises, numbers_fit, entry_fits, record_fits, is_between, IsIn, Stands}
 use Rattle.bm_image.proofs.Judged.{judged_over, data_accepted}
@@ -322,75 +325,89 @@ three_small x y z n limit test small =
     let rest = two_small y z n limit p.1 small in
     (omega (arith, a, small), rest.0, rest.1)
 
--- the numbers of a library call that is built
-either : (a b : Bool) → (a || b) ≡ true → (a ≡ true) ⊎ (b ≡ true)
-either true b test = inl refl
-either false b test = inr test
+-- the numbers of a library call are small
+place_small : (place : ℕ) (checked : Bool) (o : Option LibFn) (call : LibFn × Bool) → slice_get library place ≡ o
+    → option_map (λ f. (f, checked)) o ≡ Some call → place < 31
+place_small place checked None call is found = absurd (cc found)
+place_small place checked (Some f) call is found = slice_get_within library place f is
 
-small_pair : (call count m n : ℕ) → m < 2 ^ 32 → n < 2 ^ 32 → ((call == m) && (count == n)) ≡ true → (call < 2 ^ 32) × (count < 2 ^ 32)
-small_pair call count m n a b test =
-    let p = and_parts _ _ test in
-    let c = is_equal call m p.0 in
-    let d = is_equal count n p.1 in
-    (omega (arith, a, c), omega (arith, b, d))
+call_small : (call : ℕ) (o : Option (LibFn × Bool)) (count : ℕ) → call_of call ≡ o → call_takes o count ≡ true
+    → (call < 2 ^ 32) × (count < 2 ^ 32)
+call_small call None count is test = absurd (cc test)
+call_small call (Some f) count is test = go (nat_le 64 call) refl is where
+  most : count ≤ 64
+  most =
+      let formed = not f.1 || is_some (row_of f.0).checked in
+      let few = nat_le count 64 in
+      let all = cond (row_of f.0).variadic (nat_le (slots_of f.0 f.1) count) (count == slots_of f.0 f.1) in
+      let rest = and_parts (is_built f.0) (formed && (few && all)) test in
+      leb-true count 64 (and_parts few all (and_parts formed (few && all) rest.1).1).0
+
+  go : (t : Bool) → nat_le 64 call ≡ t → option_map (λ g. (g, t)) (slice_get library (cond t (call - 64) call)) ≡ Some f
+      → (call < 2 ^ 32) × (count < 2 ^ 32)
+  go true over found =
+      let below = place_small (call - 64) true _ f refl found in
+      (omega (arith, below), omega (arith, most))
+  go false under found =
+      let below = place_small call false _ f refl found in
+      (omega (arith, below), omega (arith, most))
 
 small_call : (call count : ℕ) → host_takes call count ≡ true → (call < 2 ^ 32) × (count < 2 ^ 32)
-small_call call count test = elim (either _ _ test) [
-  | inl exits ↦ small_pair call count 0 1 (omega arith) (omega arith) exits
-  | inr others ↦ elim (either _ _ others) [
-    | inl aborts ↦ small_pair call count 1 0 (omega arith) (omega arith) aborts
-    | inr sets ↦ small_pair call count 73 4 (omega arith) (omega arith) sets
-  ]
-]
+small_call call count test = call_small call (call_of call) count refl test
 
 -- the numbers of an instruction that fits are small
-is_instr : (b : Bounds) (x : Instr) → fits b x ≡ true → b.registers < 2 ^ 32 → b.frame < 2 ^ 32 → b.end < 2 ^ 32 → IsInstr x
-is_instr b (instr.Const to number) fit r f e =
+is_instr : (b : Bounds) (x : Instr) → fits b x ≡ true → b.registers < 2 ^ 32 → b.frame < 2 ^ 32 → b.end < 2 ^ 32 → b.functions < 2 ^ 32
+    → IsInstr x
+is_instr b (instr.Const to number) fit r f e n =
     let p = and_parts _ _ fit in
     let a = is_below to b.registers p.0 in
     let c = is_below number (2 ^ 64) p.1 in
     (omega (arith, a, r), c)
-is_instr b (instr.Move to from) fit r f e = two_small to from b.registers (2 ^ 32) fit r
-is_instr b (instr.Slot to offset) fit r f e =
+is_instr b (instr.Move to from) fit r f e n = two_small to from b.registers (2 ^ 32) fit r
+is_instr b (instr.Slot to offset) fit r f e n =
     let p = and_parts _ _ fit in
     let a = is_below to b.registers p.0 in
     let c = is_below offset (max b.frame 1) p.1 in
     (omega (arith, a, r), omega (arith, c, f))
-is_instr b (instr.Binary op to left right) fit r f e = three_small to left right b.registers (2 ^ 32) fit r
-is_instr b (instr.Divide op width to left right) fit r f e = three_small to left right b.registers (2 ^ 32) fit r
-is_instr b (instr.Extend signed width to from) fit r f e = two_small to from b.registers (2 ^ 32) fit r
-is_instr b (instr.Select to test from) fit r f e = three_small to test from b.registers (2 ^ 32) fit r
-is_instr b (instr.Load signed width to at) fit r f e = two_small to at b.registers (2 ^ 32) fit r
-is_instr b (instr.Store width from at) fit r f e = two_small from at b.registers (2 ^ 32) fit r
-is_instr b (instr.Copy to_at from_at count) fit r f e =
+is_instr b (instr.Binary op to left right) fit r f e n = three_small to left right b.registers (2 ^ 32) fit r
+is_instr b (instr.Divide op width to left right) fit r f e n = three_small to left right b.registers (2 ^ 32) fit r
+is_instr b (instr.Extend signed width to from) fit r f e n = two_small to from b.registers (2 ^ 32) fit r
+is_instr b (instr.Select to test from) fit r f e n = three_small to test from b.registers (2 ^ 32) fit r
+is_instr b (instr.Load signed width to at) fit r f e n = two_small to at b.registers (2 ^ 32) fit r
+is_instr b (instr.Store width from at) fit r f e n = two_small from at b.registers (2 ^ 32) fit r
+is_instr b (instr.Copy to_at from_at count) fit r f e n =
     let p = and_parts _ _ fit in
     let q = and_parts _ _ p.1 in
     let a = is_below to_at b.registers p.0 in
     let c = is_below from_at b.registers q.0 in
     (omega (arith, a, r), omega (arith, c, r), is_below count (2 ^ 32) q.1)
-is_instr b (instr.Zero at count) fit r f e =
+is_instr b (instr.Zero at count) fit r f e n =
     let p = and_parts _ _ fit in
     let a = is_below at b.registers p.0 in
     (omega (arith, a, r), is_below count (2 ^ 32) p.1)
-is_instr b (instr.Jump target) fit r f e = let a = is_below target b.end (and_parts _ _ fit).1 in omega (arith, a, e)
-is_instr b (instr.JumpIfZero test target) fit r f e =
+is_instr b (instr.Jump target) fit r f e n = let a = is_below target b.end (and_parts _ _ fit).1 in omega (arith, a, e)
+is_instr b (instr.JumpIfZero test target) fit r f e n =
     let p = and_parts _ _ fit in
     let a = is_below test b.registers p.0 in
     let c = is_below target b.end (and_parts _ _ p.1).1 in
     (omega (arith, a, r), omega (arith, c, e))
-is_instr b (instr.JumpIfNotZero test target) fit r f e =
+is_instr b (instr.JumpIfNotZero test target) fit r f e n =
     let p = and_parts _ _ fit in
     let a = is_below test b.registers p.0 in
     let c = is_below target b.end (and_parts _ _ p.1).1 in
     (omega (arith, a, r), omega (arith, c, e))
-is_instr b (instr.Argument from slot) fit r f e =
+is_instr b (instr.Argument from slot) fit r f e n =
     let p = and_parts _ _ fit in
     let a = is_below from b.registers p.0 in
     let c = is_below slot 64 p.1 in
     (omega (arith, a, r), omega (arith, c))
-is_instr b (instr.Call to function) fit r f e = absurd (cc fit)
-is_instr b (instr.Return from) fit r f e = let a = is_below from b.registers fit in omega (arith, a, r)
-is_instr b (instr.Host to call count) fit r f e =
+is_instr b (instr.Call to function) fit r f e n =
+    let p = and_parts _ _ fit in
+    let a = is_below to b.registers p.0 in
+    let c = is_below function b.functions p.1 in
+    (omega (arith, a, r), omega (arith, c, n))
+is_instr b (instr.Return from) fit r f e n = let a = is_below from b.registers fit in omega (arith, a, r)
+is_instr b (instr.Host to call count) fit r f e n =
     let p = and_parts _ _ fit in
     let a = is_below to b.registers p.0 in
     let c = small_call call count p.1 in
@@ -411,9 +428,11 @@ is_instr_at image is i d below =
     let w = f.weight in
     let h = f.frame in
     let size = is.size in
+    let many = is.functions in
     let end = end_small image is here.0 here.1.function in
     is_instr (bounds_of image.functions (length image.code) here.0) _
     (is.code.fit here.0 i d here.1.function here.1.behind here.1.before) (omega (arith, r, w)) (omega (arith, h)) (omega (arith, end, size))
+    (omega (arith, many))
 
 stands_at : (bytes : List ℕ) (image : PlainImage) → Says bytes image → IsImage image → (i : ℕ) (d : Instr) → i < length image.code
     → Stands (functions_in bytes) (code_count bytes) i (slice_index_or image.code i d)

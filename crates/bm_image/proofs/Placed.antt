@@ -1,5 +1,5 @@
 -- The function whose code an instruction is in.
-use Rattle.std.proofs.Common.{◌≡◌, ◌≢◌, ℕ, zero, suc, ◌+◌, ◌-◌, ◌<◌, ◌≤◌, List, [], ◌∷◌, ◌++◌, length, Bool, true, false, ◌&&◌, ◌||◌, not, ◌==◌, nat_lt, cond, IsTrue, refl, sym, ◌∙◌, ap, subst, arith, inl, inr, slice_index_or}
+use Rattle.std.proofs.Common.{◌≡◌, ℕ, zero, suc, ◌+◌, ◌-◌, ◌<◌, ◌≤◌, List, [], ◌∷◌, ◌++◌, length, Bool, true, false, ◌&&◌, ◌||◌, not, ◌==◌, cond, IsTrue, refl, sym, ◌∙◌, ap, subst, arith, inl, inr, slice_index_or}
 use Rattle.std.proofs.lemmas.Bool.{cases_lt, lt-ltb}
 use Rattle.std.proofs.lemmas.List.{get_or_append_left, get_or_push, length-append}
 use Rattle.bm_isa.specs.declared.instructions.Instr.{Instr}
@@ -101,36 +101,8 @@ read_more bytes code after i x len read one e = λ j d below. elim (cases_lt j i
       ∙ ap (λ l. slice_index_or l i d) (sym e)) one)
 ]
 
--- where the next instruction is
-pub first_near : (functions : List FnRec) (size : ℕ) → AreInOrder functions size → 0 < length functions → IsNear functions size 0 0
-first_near functions size order some =
-    let starts = order.starts in
-    record { function = some; behind = omega (arith, starts); before = omega arith }
-
 pub next_near : (functions : List FnRec) (size k i : ℕ) → IsIn functions size k i → IsNear functions size k (i + 1)
 next_near functions size k i here =
     let p = here.behind in
     let q = here.before in
     record { function = here.function; behind = omega (arith, p); before = omega (arith, q) }
-
-pub stays_in : (functions : List FnRec) (size k i : ℕ) → IsNear functions size k i → i < size → (k + 1 < length functions
-    → (function_at functions (k + 1)).first ≢ i) → IsIn functions size k i
-stays_in functions size k i near inside other =
-    let p = near.before in
-    let apart : end_of functions size k ≢ i = go (nat_lt (k + 1) (length functions)) refl in
-    record { function = near.function; behind = near.behind; before = omega (arith, p, apart) } where
-      go : (t : Bool) → nat_lt (k + 1) (length functions) ≡ t → cond t (function_at functions (k + 1)).first size ≢ i
-      go true e = let below : k + 1 < length functions = grind (arith, e) in other below
-      go false e = λ same. absurd (omega (arith, same, inside))
-
-pub moves_on : (functions : List FnRec) (size k i : ℕ) → AreInOrder functions size → k + 1 < length functions
-    → (function_at functions (k + 1)).first ≡ i → IsIn functions size (k + 1) i
-moves_on functions size k i order below same = record {
-  function = below;
-  behind = omega (arith, same);
-  before = go (nat_lt (k + 1 + 1)
-      (length functions)) refl;
-} where
-  go : (t : Bool) → nat_lt (k + 1 + 1) (length functions) ≡ t → i < cond t (function_at functions (k + 1 + 1)).first size
-  go true e = let more : k + 1 + 1 < length functions = grind (arith, e) in let step = order.rises (k + 1) more in omega (arith, step, same)
-  go false e = let inside = order.inside (k + 1) below in omega (arith, inside, same)

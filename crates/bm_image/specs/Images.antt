@@ -1,10 +1,11 @@
 -- What an image is. This project's own.
-use Rattle.std.specs.Prelude.{◌≡◌, ℕ, ◌+◌, ◌%◌, ◌^◌, ◌<◌, ◌≤◌, ◌==◌, List, length, Bool, true, false, ◌&&◌, ◌||◌, nat_lt, nat_le, max, cond, IsTrue, ◌⊎◌, All}
+use Rattle.std.specs.Prelude.{◌≡◌, ℕ, ◌+◌, ◌%◌, ◌^◌, ◌<◌, ◌≤◌, ◌==◌, List, length, Bool, true, false, ◌&&◌, ◌||◌, nat_lt, nat_le, max, cond, IsTrue, ◌⊎◌, All, not, is_some, Option, Some, None}
 use Rattle.std.specs.List.{slice_index_or}
 use Rattle.bm_isa.specs.declared.instructions.Instr.{Instr}
 use Rattle.bm_isa.specs.declared.instructions.Instr.TheVariants as instr
-use Rattle.c_library.specs.Library.{host_number}
-use Rattle.c_library.specs.declared.functions.LibFn.TheVariants.{Exit, Abort, Memset}
+use Rattle.c_library.specs.Library.{host_number, row_of, call_of}
+use Rattle.c_library.specs.declared.functions.LibFn.{LibFn}
+use Rattle.c_library.specs.declared.functions.LibFn.TheVariants as calls
 use Rattle.bm_image.specs.declared.images.FnRec.{FnRec}
 use Rattle.bm_image.specs.declared.images.Image.{Image}
 use Rattle.bm_image.specs.declared.images.Bounds.{Bounds}
@@ -42,22 +43,47 @@ bounds_of functions size k = record {
   functions = length functions;
 }
 
--- the numbers of exit, of abort, and of the checked memset, whose arguments are the place, the byte, the count and the size
-abbrev pub exit_call : ℕ
-exit_call = host_number Exit false
-
-abbrev pub abort_call : ℕ
-abort_call = host_number Abort false
-
+-- the number of the checked memset, whose arguments are the place, the byte, the count and the size
 abbrev pub memset_chk : ℕ
-memset_chk = host_number Memset true
+memset_chk = host_number calls.Memset true
 
--- a library call of that number takes that many argument slots. The calls that the machine doesn't have yet take none
+-- the machine doesn't have the calls on the heap and those that write or read yet
+abbrev pub is_built : LibFn → Bool
+is_built calls.Malloc = false
+is_built calls.Calloc = false
+is_built calls.Realloc = false
+is_built calls.Free = false
+is_built calls.Printf = false
+is_built calls.Puts = false
+is_built calls.Putchar = false
+is_built calls.Dprintf = false
+is_built calls.Sprintf = false
+is_built calls.Snprintf = false
+is_built calls.Read = false
+is_built calls.Write = false
+is_built calls.Getchar = false
+is_built calls.Note = false
+is_built _ = true
+
+-- how many argument slots a call of a function takes: one for each parameter, and one more for the size of its checked form.
+-- What follows a format takes more, up to all 64
+abbrev pub slots_of : LibFn → Bool → ℕ
+slots_of f checked = length (row_of f).parameters + cond checked 1 0
+
+abbrev pub form_takes : LibFn → Bool → ℕ → Bool
+form_takes f checked count =
+    is_built f && ((not checked || is_some (row_of f).checked)
+    && (nat_le count 64 && cond (row_of f).variadic (nat_le (slots_of f checked) count) (count == slots_of f checked)))
+
+-- a library call of that number takes that many argument slots
+abbrev pub call_takes : Option (LibFn × Bool) → ℕ → Bool
+call_takes None count = false
+call_takes (Some call) count = form_takes call.0 call.1 count
+
 abbrev pub host_takes : ℕ → ℕ → Bool
-host_takes call count =
-    ((call == exit_call) && (count == 1)) || (((call == abort_call) && (count == 0)) || ((call == memset_chk) && (count == 4)))
+host_takes call count = call_takes (call_of call) count
 
--- an instruction's operands are within these bounds. The instructions that the machine doesn't have yet stand in no function
+-- an instruction's operands are within these bounds
 abbrev pub fits : Bounds → Instr → Bool
 fits b (instr.Const to number) = nat_lt to b.registers && nat_lt number (2 ^ 64)
 fits b (instr.Move to from) = nat_lt to b.registers && nat_lt from b.registers
@@ -74,7 +100,7 @@ fits b (instr.Jump target) = nat_le b.first target && nat_lt target b.end
 fits b (instr.JumpIfZero test target) = nat_lt test b.registers && (nat_le b.first target && nat_lt target b.end)
 fits b (instr.JumpIfNotZero test target) = nat_lt test b.registers && (nat_le b.first target && nat_lt target b.end)
 fits b (instr.Argument from slot) = nat_lt from b.registers && nat_lt slot 64
-fits b (instr.Call to function) = false
+fits b (instr.Call to function) = nat_lt to b.registers && nat_lt function b.functions
 fits b (instr.Return from) = nat_lt from b.registers
 fits b (instr.Host to call count) = nat_lt to b.registers && host_takes call count
 

@@ -1,19 +1,79 @@
 //! Which instructions may stand in a function.
 
 ghost use Rattle.std.specs.Prelude.{◌≡◌, ◌^◌, nat_lt};
-ghost use Rattle.bm_image.specs.Images.{host_takes, fits, ends_function};
+ghost use Rattle.bm_image.specs.Images.{is_built, form_takes, host_takes, fits, ends_function};
 
 use crate::images::Bounds;
 use bm_isa::Instr;
-use c_library::LibFn;
+use c_library::{LibFn, host_call};
+
+/// Whether the machine has the function's call.
+fn is_built(f: LibFn) -> bool
+    ensures { result ≡ is_built f }
+{
+    match f {
+        LibFn::Exit
+        | LibFn::Abort
+        | LibFn::Memcpy
+        | LibFn::Memmove
+        | LibFn::Mempcpy
+        | LibFn::Memset
+        | LibFn::Bzero
+        | LibFn::ExplicitBzero
+        | LibFn::Memcmp
+        | LibFn::Strcpy
+        | LibFn::Stpcpy
+        | LibFn::Strncpy
+        | LibFn::Strcat
+        | LibFn::Strncat
+        | LibFn::Strlen
+        | LibFn::Strcmp
+        | LibFn::Strchr => true,
+        LibFn::Malloc
+        | LibFn::Calloc
+        | LibFn::Realloc
+        | LibFn::Free
+        | LibFn::Printf
+        | LibFn::Puts
+        | LibFn::Putchar
+        | LibFn::Dprintf
+        | LibFn::Sprintf
+        | LibFn::Snprintf
+        | LibFn::Read
+        | LibFn::Write
+        | LibFn::Getchar
+        | LibFn::Note => false,
+    }
+}
+
+/// Whether a form of the function takes that many argument slots.
+fn form_takes(f: LibFn, checked: bool, count: u32) -> bool
+    ensures { result ≡ form_takes f checked count }
+{
+    if !is_built(f) {
+        return false;
+    }
+    if checked && f.checked_form().is_none() {
+        return false;
+    }
+    let count = count as usize;
+    let slots = f.parameters().len() + usize::from(checked);
+    count <= 64
+        && if f.is_variadic() {
+            slots <= count
+        } else {
+            count == slots
+        }
+}
 
 /// Whether a library call of that number takes that many argument slots.
 fn host_takes(call: u32, count: u32) -> bool
     ensures { result ≡ host_takes call count }
 {
-    call == LibFn::Exit.host_number(false) && count == 1
-        || (call == LibFn::Abort.host_number(false) && count == 0
-            || call == LibFn::Memset.host_number(true) && count == 4)
+    match host_call(call) {
+        Some((f, checked)) => form_takes(f, checked, count),
+        None => false,
+    }
 }
 
 /// Each number of this type has 64 bits.
@@ -74,7 +134,7 @@ pub fn fits(b: &Bounds, instruction: &Instr) -> bool
             from_at,
             count,
         } => to_at < b.registers && (from_at < b.registers && is_count(count)),
-        Instr::Call { .. } => false,
+        Instr::Call { to, function } => to < b.registers && function < b.functions,
     }
 }
 

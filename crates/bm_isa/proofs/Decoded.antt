@@ -56,7 +56,8 @@ made =
     ∷ (λ w a b c. instr.Divide divide.Div (divide_width w) a b c) ∷ (λ w a b c. instr.Divide divide.Rem (divide_width w) a b c)
     ∷ (λ w a b c. instr.Extend true (width_of w) a b) ∷ (λ w a b c. instr.Extend false (width_of w) a b)
     ∷ operation binary.Equal ∷ operation binary.NotEqual ∷ operation binary.LessUnsigned ∷ operation binary.AtMostUnsigned
-    ∷ operation binary.LessSigned ∷ operation binary.AtMostSigned ∷ operation binary.MinSigned ∷ operation binary.MaxSigned ∷ operation binary.MinUnsigned
+    ∷ operation binary.LessSigned ∷ operation binary.AtMostSigned ∷ operation binary.MinSigned ∷ operation binary.MaxSigned
+    ∷ operation binary.MinUnsigned
     ∷ (λ w a b c. instr.Select a b c) ∷ (λ w a b c. instr.Load false (width_of w) a b) ∷ (λ w a b c. instr.Load true (width_of w) a b)
     ∷ (λ w a b c. instr.Store (width_of w) a b) ∷ (λ w a b c. instr.Copy a b c) ∷ (λ w a b c. instr.Zero a c)
     ∷ (λ w a b c. instr.Jump b) ∷ (λ w a b c. instr.JumpIfZero a b) ∷ (λ w a b c. instr.JumpIfNotZero a b)
@@ -159,7 +160,8 @@ pub record Good (number width spare last a b c : ℕ) : Type 0 where
   pub last_ok : last ≡ 0
   pub others_ok : others_are_zero number a b c ≡ true
 
-pub good_fields : (number width spare last a b c : ℕ) → bad_fields number width (spare, last) a b c ≡ None → Good number width spare last a b c
+pub good_fields : (number width spare last a b c : ℕ) → bad_fields number width (spare, last) a b c ≡ None
+    → Good number width spare last a b c
 good_fields number width spare last a b c none = go (nat_lt 40 number) (allows_width number width) (spare == 0) (last == 0)
     (others_are_zero number a b c) refl refl refl refl refl none where
       go : (n w s l o : Bool) → nat_lt 40 number ≡ n → allows_width number width ≡ w → (spare == 0) ≡ s → (last == 0) ≡ l

@@ -7,7 +7,7 @@ use Rattle.run_meaning.specs.Runs.{Shown, on_descriptor, bytes_on}
 use Rattle.run_meaning.specs.Worlds.{AreBytes, Input}
 use Rattle.run_meaning.specs.declared.streams.Stream.TheVariants.{Input as OfInput, Out as OfOut, Err as OfErr}
 use Rattle.run_meaning.specs.Objects.{Streams, StreamState, streams, Tells, Offers, Moves, MovesUpTo, NoneFell}
-use Rattle.run_meaning.proofs.Moved.{bytes_on-same, bytes_on-other, takes-none, appends-none, appends-append}
+use Rattle.run_meaning.proofs.Moved.{bytes_on-same, bytes_on-other, takes-none, takes-append, appends-none, appends-append, are_bytes-append, ended_stays}
 use Rattle.byte_machine.specs.Performing.{behind, HaveMoved}
 
 -- the bytes of one descriptor in two lists
@@ -19,16 +19,6 @@ bytes_on-append d a b =
 pub on_descriptor-append : (d : ℕ) (a b : List ℕ) → on_descriptor d (a ++ b) ≡ on_descriptor d a ++ on_descriptor d b
 on_descriptor-append d a b = map-append (λ (byte : ℕ). (d, byte)) a b
 
-takes-append : (a b : List ℕ) (x y z : Option (List ℕ)) → Takes a x y → Takes b y z → Takes (a ++ b) x z
-takes-append a b None y z p q = tt
-takes-append a b (Some x) None z p q = absurd p
-takes-append a b (Some x) (Some y) None p q = absurd q
-takes-append a b (Some x) (Some y) (Some z) p q = p ∙ ap (λ l. a ++ l) q ∙ sym (append_assoc a b z)
-
-are_bytes-append : (a b : List ℕ) → AreBytes a → AreBytes b → AreBytes (a ++ b)
-are_bytes-append [] b p q = q
-are_bytes-append (x ∷ a) b p q = (p.0, are_bytes-append a b p.1 q)
-
 pub moves-append : (a b : Shown) (x y z : Streams) → Moves a x y → Moves b y z → Moves (a ++ b) x z
 moves-append a b x y z p q = record {
   taken = subst (λ l. Takes l x.input.told z.input.told) (sym (bytes_on-append 0 a b))
@@ -38,17 +28,6 @@ moves-append a b x y z p q = record {
   on_err = subst (λ l. Appends l x.err.told z.err.told) (sym (bytes_on-append 2 a b))
       (appends-append (bytes_on 2 a) (bytes_on 2 b) x.err.told y.err.told z.err.told p.on_err q.on_err);
 }
-
--- a list that begins with nothing else
-rest_of_none : (t c : List ℕ) → [] ≡ t ++ c → c ≡ []
-rest_of_none [] c is = sym is
-rest_of_none (x ∷ t) c is = absurd (cc is)
-
--- a source that has ended stays so
-ended_stays : (t : List ℕ) (y z : Option (List ℕ)) → IsAtEnd y → (y ≡ None → IsAtEnd z) → Takes t y z → IsAtEnd z
-ended_stays t None z at_end next takes = next refl
-ended_stays t (Some b) None at_end next takes = tt
-ended_stays t (Some b) (Some c) at_end next takes = rest_of_none t c (sym at_end ∙ takes)
 
 pub fell-both : (x y z : Streams) → NoneFell x y → NoneFell y z → NoneFell x z
 fell-both x y z p q = λ which. let a = p which in let b = q which in omega (arith, a, b)

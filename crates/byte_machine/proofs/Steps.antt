@@ -1,8 +1,9 @@
 -- What a runnable machine knows of the instruction it stands at, and what one instruction does.
-use Rattle.std.proofs.Common.{◌≡◌, ℕ, zero, suc, ◌+◌, ◌<◌, ◌≤◌, ◌==◌, ◌^◌, List, [], ◌∷◌, ◌++◌, length, Bool, true, false, ◌&&◌, nat_lt, nat_le, cond, is_some, None, Some, IsTrue, vec_len, refl, sym, ◌∙◌, ap, arith, slice_get, slice_index_or, replicate, ◌%◌, subst}
+use Rattle.std.proofs.Common.{◌≡◌, ℕ, zero, suc, ◌+◌, ◌<◌, ◌≤◌, ◌==◌, ◌^◌, List, [], ◌∷◌, ◌++◌, length, Bool, true, false, ◌&&◌, nat_lt, nat_le, cond, is_some, None, Some, IsTrue, vec_len, refl, sym, ◌∙◌, ap, arith, slice_get, slice_index_or, replicate, ◌%◌, subst, slice_set, inl, inr}
 use Rattle.std.proofs.lemmas.Option.{get_or_from_slice_get, same_Some}
 use Rattle.std.proofs.lemmas.Bool.{leb-true, ltb-true, eqb-true, eq-eqb, lt-ltb, le-ltb}
-use Rattle.std.proofs.lemmas.Grind.{get_or_default_zero}
+use Rattle.std.proofs.lemmas.Bool.{cases_lt}
+use Rattle.std.proofs.lemmas.List.{get_or_default}
 use Rattle.fc_base.specs.Outside.{Appends, AppendsFront, Rose}
 use Rattle.fc_base.specs.declared.levels.End.{End}
 use Rattle.fc_base.specs.declared.levels.End.TheVariants as ends
@@ -15,20 +16,19 @@ use Rattle.run_meaning.proofs.Moved.{bytes_on-same, bytes_on-other}
 use Rattle.bm_isa.specs.declared.instructions.Instr.{Instr}
 use Rattle.bm_isa.specs.declared.instructions.Instr.TheVariants as instr
 use Rattle.c_library.specs.declared.functions.LibFn.{LibFn}
-use Rattle.c_library.specs.declared.functions.LibFn.TheVariants as calls
 use Rattle.bm_image.specs.declared.images.Bounds.{Bounds}
 use Rattle.bm_image.specs.declared.images.FnRec.{FnRec}
-use Rattle.bm_image.specs.Images.{function_at, end_of, bounds_of, fits, IsCode}
+use Rattle.bm_image.specs.Images.{function_at, no_function, end_of, bounds_of, fits, ends_function, IsCode}
 use Rattle.byte_machine.specs.declared.machine.Machine.TheInside.{Inside}
 use Rattle.byte_machine.specs.declared.machine.Stop.TheVariants as stops
 use Rattle.byte_machine.specs.declared.machine.Step.{Step}
 use Rattle.byte_machine.specs.declared.machine.Step.TheVariants as steps
-use Rattle.byte_machine.specs.State.{Core, State, Program, register, host_call, numbered_call, returning, perform, performed, next, slot_value, ending, giving, with_core, overflowing}
-use Rattle.library_meaning.specs.Memory.{put, are_valid}
+use Rattle.byte_machine.specs.State.{Core, State, Program, Window, register, host_call, numbered_call, perform, performed, next, slot_value, ending, giving, with_core, overflowing}
+use Rattle.library_meaning.specs.declared.stops.HostStop.TheVariants as host
 use Rattle.byte_machine.specs.Opening.{begun}
 use Rattle.byte_machine.specs.Machines.{Loaded, moved_next}
-use Rattle.byte_machine.specs.Performing.{IsGoing, StandsAt, StandsAtCall, Names, registers_of, stopped_with, behind, having_moved, Carried, FailsIn, Performs}
-use Rattle.byte_machine.specs.View.{loaded_of, IsRunnable}
+use Rattle.byte_machine.specs.Performing.{IsGoing, StandsAt, StandsAtCall, Names, registers_of, stopped_with, behind, having_moved, Carried, FailsIn, Halts, Performs}
+use Rattle.byte_machine.specs.View.{loaded_of, program_in, IsCall, IsRunnable}
 use Rattle.byte_machine.proofs.Moving.{on_descriptor-append, have_moved-none, have_moved-err}
 
 -- a function's code ends within the code
@@ -39,19 +39,52 @@ end_within functions code k is below = go (nat_lt (k + 1) (length functions)) re
   go true test = let next_in : k + 1 < length functions = grind arith in let h = is.inside (k + 1) next_in in omega arith
   go false test = omega arith
 
--- the machine stands at an instruction
-pub at_code : (m : Inside) → IsRunnable m → m.at < length m.code.items
-at_code m is = let h = end_within m.functions.items m.code.items m.function is.code is.function in let b = is.before in omega (arith, h)
+-- a function has an instruction
+pub some_instruction : (functions : List FnRec) (code : List Instr) (k : ℕ) → IsCode functions code → k < length functions
+    → (function_at functions k).first < end_of functions (length code) k
+some_instruction functions code k is below = go (nat_lt (k + 1) (length functions)) refl where
+  go : (t : Bool) → nat_lt (k + 1) (length functions) ≡ t → (function_at functions k).first < cond t (function_at functions (k + 1)).first
+      (length code)
+  go true test = let next_in : k + 1 < length functions = grind arith in is.rises k next_in
+  go false test = is.inside k below
+
+-- a call stands at an instruction, and so does the machine
+pub call_in_code : (program : Program) (w : Window) → IsCode program.functions program.code → IsCall program w → w.at < length program.code
+call_in_code program w code is =
+    let h = end_within program.functions program.code w.function code is.function in
+    let b = is.before in
+    omega (arith, h, b)
+
+pub at_code : (m : Inside) → IsRunnable m → m.windows.running.at < length m.code.items
+at_code m is = call_in_code (program_in m) m.windows.running is.code is.running
 
 -- what its instructions may name
 abbrev pub bounds_in : Inside → Bounds
-bounds_in m = bounds_of m.functions.items (length m.code.items) m.function
+bounds_in m = bounds_of m.functions.items (length m.code.items) m.windows.running.function
 
--- the instruction stands rightly there
-pub stands_fits : (m : Inside) (i : Instr) → IsRunnable m → slice_get m.code.items m.at ≡ Some i → fits (bounds_in m) i ≡ true
-stands_fits m i is stands =
-    let P : Instr → Type 0 = λ x. IsTrue (fits (bounds_in m) x) in
-    subst P (get_or_from_slice_get m.code.items m.at i i stands) (is.code.fit m.function m.at i is.function is.behind is.before)
+-- the instruction of a call stands rightly there
+pub call_fits : (program : Program) (w : Window) (i : Instr) → IsCode program.functions program.code → IsCall program w
+    → slice_get program.code w.at ≡ Some i → fits (bounds_of program.functions (length program.code) w.function) i ≡ true
+call_fits program w i code is stands =
+    let P : Instr → Type 0 = λ x. IsTrue (fits (bounds_of program.functions (length program.code) w.function) x) in
+    subst P (get_or_from_slice_get program.code w.at i i stands) (code.fit w.function w.at i is.function is.behind is.before)
+
+pub stands_fits : (m : Inside) (i : Instr) → IsRunnable m → slice_get m.code.items m.windows.running.at ≡ Some i → fits (bounds_in m) i ≡ true
+stands_fits m i is stands = call_fits (program_in m) m.windows.running i is.code is.running stands
+
+-- it does not end its function where control goes on behind it
+pub call_behind : (program : Program) (w : Window) (i : Instr) → IsCode program.functions program.code → IsCall program w
+    → slice_get program.code w.at ≡ Some i → ends_function i ≡ false
+    → w.at + 1 < end_of program.functions (length program.code) w.function
+call_behind program w i code is stands goes = elim (cases_lt (w.at + 1) (end_of program.functions (length program.code) w.function)) [
+  | inl below ↦ below
+  | inr past ↦
+      let before = is.before in
+      let end : w.at + 1 ≡ end_of program.functions (length program.code) w.function = omega (arith, before, past) in
+      let P : Instr → Type 0 = λ x. IsTrue (ends_function x) in
+      let ends : ends_function i ≡ true = subst P (get_or_from_slice_get program.code w.at i i stands) (code.last w.function w.at i is.function is.behind end) in
+      absurd (cc (ends, goes))
+]
 
 -- the parts of a test
 pub first_test : (a b : Bool) → (a && b) ≡ true → a ≡ true
@@ -99,45 +132,39 @@ named_in b (instr.Jump target) k r fit named = absurd (cc named)
 named_in b (instr.JumpIfZero test target) k r fit named = one_of test k r b.registers named (first_test _ _ fit)
 named_in b (instr.JumpIfNotZero test target) k r fit named = one_of test k r b.registers named (first_test _ _ fit)
 named_in b (instr.Argument from slot) k r fit named = one_of from k r b.registers named (first_test _ _ fit)
-named_in b (instr.Call to function) k r fit named = absurd (cc fit)
+named_in b (instr.Call to function) k r fit named = one_of to k r b.registers named (first_test _ _ fit)
 named_in b (instr.Return from) k r fit named = one_of from k r b.registers named fit
 named_in b (instr.Host to call count) k r fit named = one_of to k r b.registers named (first_test _ _ fit)
 
 -- a machine has the registers that its instruction names
-pub register_in : (m : Inside) (i : Instr) (k r : ℕ) → IsRunnable m → slice_get m.code.items m.at ≡ Some i
-    → slice_get (registers_of i) k ≡ Some r → r < vec_len m.registers
+pub register_in : (m : Inside) (i : Instr) (k r : ℕ) → IsRunnable m → slice_get m.code.items m.windows.running.at ≡ Some i
+    → slice_get (registers_of i) k ≡ Some r → r < length m.windows.running.registers
 register_in m i k r is stands named =
-    let below : r < (function_at m.functions.items m.function).regs = named_in (bounds_in m) i k r (stands_fits m i is stands) named in
-    let same = is.registers in
-    omega (arith, below)
-
--- a machine that goes on at another instruction of its function is runnable again
-pub jumps_runnable : (m : Inside) (target : ℕ) → IsRunnable m
-    → (nat_le (bounds_in m).first target && nat_lt target (bounds_in m).end) ≡ true → IsRunnable (record m { at = target })
-jumps_runnable m target is test = record {
-  memory = is.memory;
-  code = is.code;
-  short = is.short;
-  function = is.function;
-  behind = leb-true _ _ (first_test _ _ test);
-  before = ltb-true _ _ (second_test _ _ test);
-  base = is.base;
-  registers = is.registers;
-}
+    let below : r < (function_at m.functions.items m.windows.running.function).regs = named_in (bounds_in m) i k r (stands_fits m i is stands) named in
+    let same = is.running.registers in
+    omega (arith, below, same)
 
 -- what callers see stands in the fields
-pub stands_in : (m : Inside) (l : Loaded) (i : Instr) → loaded_of m ≡ l → StandsAt l i → slice_get m.code.items m.at ≡ Some i
+pub stands_in : (m : Inside) (l : Loaded) (i : Instr) → loaded_of m ≡ l → StandsAt l i → slice_get m.code.items m.windows.running.at ≡ Some i
 stands_in m l i is stands = ap (λ x. slice_get x.program.code x.core.running.at) is ∙ stands
 
-pub has_register : (m : Inside) (l : Loaded) (r : ℕ) → loaded_of m ≡ l → IsRunnable m → Names l r → r < vec_len m.registers
+pub has_register : (m : Inside) (l : Loaded) (r : ℕ) → loaded_of m ≡ l → IsRunnable m → Names l r → r < length m.windows.running.registers
 has_register m l r same is names = register_in m names.i names.k r is (stands_in m l names.i same names.stands) names.named
 
--- a register as the table reads it
-pub register_read : (m : Inside) (r x : ℕ) → x ≡ slice_index_or m.registers.items r x → r < vec_len m.registers
-    → x ≡ slice_index_or m.registers.items r 0
-register_read m r x read below =
-    let len = m.registers.ok.0 in
-    read ∙ get_or_default_zero m.registers.items r x (omega (arith, len))
+-- a function that was read
+pub function_there : (m : Inside) (l : Loaded) (function : ℕ) → loaded_of m ≡ l → function < length l.program.functions
+    → function < length m.functions.items
+function_there m l function same there = subst (λ (x : Loaded). function < length x.program.functions) (sym same) there
+
+pub function_in : (m : Inside) (l : Loaded) (function : ℕ) (f : FnRec) → loaded_of m ≡ l → f ≡ slice_index_or m.functions.items function f
+    → function < length l.program.functions → f ≡ function_at m.functions.items function
+function_in m l function f same read there =
+    read ∙ get_or_default m.functions.items function f no_function (function_there m l function same there)
+
+pub function_read : (m : Inside) (l : Loaded) (function : ℕ) (f : FnRec) → loaded_of m ≡ l → f ≡ slice_index_or m.functions.items function f
+    → function < length l.program.functions → f ≡ function_at l.program.functions function
+function_read m l function f same read there =
+    function_in m l function f same read there ∙ ap (λ x. function_at x.program.functions function) same
 
 -- a machine that has not stopped performs the instruction it stands at
 pub next_is : (program : Program) (s : State) (i : Instr) → s.core.stopped ≡ None → slice_get program.code s.core.running.at ≡ Some i
@@ -182,98 +209,44 @@ is_not_zero read n same apart = go (n == 0) refl where
   go true test = absurd (apart (same ∙ eqb-true n 0 test))
   go false test = test
 
--- the first call's end is the run's
-pub left : (old new : Loaded) (step : Step) (from value : ℕ) (x : Streams) → IsGoing old → StandsAt old (instr.Return from)
-    → old.core.callers ≡ [] → value ≡ register old.core from
-    → step ≡ steps.Stopped (stops.Ended (ends.Exit (value % 256))) → new ≡ stopped_with (stops.Ended (ends.Exit (value % 256))) old
-    → Performs old new step x x
-left old new step from value x going stands first read stops is =
-    ended_there old new step (instr.Return from) (ends.Exit (value % 256)) x going stands stops is
-    (λ input. ap (λ callers. begun (returning old.program (register old.core from) callers old.core) input) first
-    ∙ ap (λ v. begun (ending (ends.Exit (v % 256)) old.core) input) (sym read))
-
 -- a library call does what its equation says
 pub call_is : (l : Loaded) (call : LibFn) (checked : Bool) (to : ℕ) (at : StandsAtCall l call checked to) (s : State)
-    → perform l.program (instr.Host to at.number at.count) s ≡ host_call call checked at.count to s
-call_is l call checked to at s = ap (λ o. numbered_call o at.count to s) at.is
-
--- the machine stands at the checked memset
-abbrev pub AtMemset : Loaded → ℕ → Type 0
-AtMemset l to = StandsAtCall l calls.Memset true to
-
--- what it does, by its tests
-abbrev pub memset_by : Bool → Bool → ℕ → State → State
-memset_by exceeds valid to s =
-    cond exceeds (overflowing s)
-    (cond valid
-    (with_core (giving to (slot_value s.core 0) (record s.core {
-      memory = put (slot_value s.core 0)
-          (replicate (slot_value s.core 2) (slot_value s.core 1 % 256)) s.core.memory;
-    })) s)
-    (with_core (ending ends.BadAddress s.core) s))
-
-memset_is : (l : Loaded) (to : ℕ) (at : AtMemset l to) (exceeds valid : Bool) (input : Input) → nat_lt (slot_value l.core 3) (slot_value l.core 2) ≡ exceeds
-    → are_valid (slot_value l.core 0) (slot_value l.core 2) ≡ valid
-    → perform l.program (instr.Host to at.number at.count) (begun l.core input) ≡ memset_by exceeds valid to (begun l.core input)
-memset_is l to at exceeds valid input first second =
-    call_is l calls.Memset true to at (begun l.core input)
-    ∙ ap (λ t. memset_by t (are_valid (slot_value l.core 0) (slot_value l.core 2)) to (begun l.core input)) first
-    ∙ ap (λ t. memset_by exceeds t to (begun l.core input)) second
-
--- some byte that it sets may not be touched
-pub misses : (l : Loaded) (to : ℕ) (at : AtMemset l to) (input : Input) → slot_value l.core 2 ≤ slot_value l.core 3
-    → are_valid (slot_value l.core 0) (slot_value l.core 2) ≡ false
-    → perform l.program (instr.Host to at.number at.count) (begun l.core input) ≡ begun (ending ends.BadAddress l.core) input
-misses l to at input within invalid = memset_is l to at false false input (le-ltb _ _ within) invalid
-
--- it sets its bytes
-pub sets : (l : Loaded) (to : ℕ) (at : AtMemset l to) (input : Input) → slot_value l.core 2 ≤ slot_value l.core 3
-    → are_valid (slot_value l.core 0) (slot_value l.core 2) ≡ true
-    → perform l.program (instr.Host to at.number at.count) (begun l.core input)
-    ≡ begun (giving to (slot_value l.core 0) (record l.core {
-      memory = put (slot_value l.core 0)
-          (replicate (slot_value l.core 2) (slot_value l.core 1 % 256)) l.core.memory;
-    })) input
-sets l to at input within valid = memset_is l to at false true input (le-ltb _ _ within) valid
+    → perform l.program (instr.Host to at.number at.count) s ≡ host_call call checked to s
+call_is l call checked to at s = ap (λ o. numbered_call o to s) at.is
 
 -- its request exceeds its size
-overflows : (l : Loaded) (to : ℕ) (input : Input) → l.core.stopped ≡ None → AtMemset l to → slot_value l.core 3 < slot_value l.core 2
+overflows : (l : Loaded) (input : Input) → l.core.stopped ≡ None → Halts l host.Overflow
     → next l.program (begun l.core input) ≡ having_moved (ending ends.Overflow l.core) (on_descriptor 2 overflow_line) input
-overflows l to input running at exceeds =
-    next_is l.program (begun l.core input) (instr.Host to at.number at.count) running at.stands
-    ∙ call_is l calls.Memset true to at (begun l.core input)
-    ∙ ap (λ t. memset_by t (are_valid (slot_value l.core 0) (slot_value l.core 2)) to (begun l.core input)) (lt-ltb _ _ exceeds)
+overflows l input running halts = next_is l.program (begun l.core input) halts.i running halts.stands ∙ halts.does input
 
 -- bytes on standard error take none of the input
 behind-err : (line : List ℕ) (rest : Input) → behind (on_descriptor 2 line) rest ≡ rest
 behind-err line rest = ap (λ (bytes : List ℕ). record rest { bytes = bytes ++ rest.bytes }) (bytes_on-other 0 2 line refl)
 
-pub overflowed : (old new : Loaded) (step : Step) (to : ℕ) (input out err err' : StreamState) → IsGoing old → AtMemset old to
-    → slot_value old.core 3 < slot_value old.core 2
+pub overflowed : (old new : Loaded) (step : Step) (input out err err' : StreamState) → IsGoing old → Halts old host.Overflow
     → Appends overflow_line err.told err'.told → err.faults ≤ err'.faults → step ≡ steps.Stopped (stops.Ended ends.Overflow)
     → new ≡ stopped_with (stops.Ended ends.Overflow) old
     → Performs old new step (streams input out err) (streams input out err')
-overflowed old new step to input out err err' going stands exceeds appended count stops is =
+overflowed old new step input out err err' going halts appended count stops is =
     let one : Carried old.program old.core (ending ends.Overflow old.core) (streams input out err) (streams input out err') = record {
       moved = on_descriptor 2 overflow_line;
       have = have_moved-err overflow_line input out err err' appended count;
       state = λ rest offers. ap (λ i. next old.program (begun old.core i)) (behind-err overflow_line rest)
-          ∙ overflows old to rest going.0 stands exceeds;
+          ∙ overflows old rest going.0 halts;
     } in
     rw (stops, is) (one, refl, refl)
 
 -- standard error failed under that line
-pub failed_overflowing : (old new : Loaded) (step : Step) (to : ℕ) (input out err err' : StreamState) → IsGoing old → AtMemset old to
-    → slot_value old.core 3 < slot_value old.core 2
+pub failed_overflowing : (old new : Loaded) (step : Step) (input out err err' : StreamState) → IsGoing old → Halts old host.Overflow
     → AppendsFront overflow_line err.told err'.told → Rose err.faults err'.faults → err.faults ≤ err'.faults
     → step ≡ steps.Stopped stops.ErrFault → new ≡ stopped_with stops.ErrFault old
     → Performs old new step (streams input out err) (streams input out err')
-failed_overflowing old new step to input out err err' going stands exceeds front rose count stops is =
+failed_overflowing old new step input out err err' going halts front rose count stops is =
     let line = front.0 in
     let comes : (rest : Input) → moved_next old.program (begun old.core (behind (on_descriptor 2 line) rest))
     ≡ on_descriptor 2 overflow_line =
     λ rest. ap (λ i. moved_next old.program (begun old.core i)) (behind-err line rest)
-    ∙ ap (λ s. s.world.shown) (overflows old to rest going.0 stands exceeds) in
+    ∙ ap (λ s. s.world.shown) (overflows old rest going.0 halts) in
     let one : FailsIn OfErr old.program old.core (streams input out err) (streams input out err') = record {
       moved = on_descriptor 2 line;
       have = have_moved-err line input out err err' front.2 count;

@@ -1,5 +1,7 @@
+pub mod Calls
 pub mod Machines
 pub mod Opening
 pub mod Performing
+pub mod Stack
 pub mod State
 pub mod View

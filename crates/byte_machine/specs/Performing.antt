@@ -1,5 +1,5 @@
 -- What one instruction does to a machine and to the streams. It serves the proofs alone.
-use Rattle.std.specs.Prelude.{◌≡◌, Bool, ℕ, List, [], ◌∷◌, ◌++◌, None, Some, slice_get, false, true, length, nat_le, nat_lt, ◌&&◌}
+use Rattle.std.specs.Prelude.{◌≡◌, Bool, ℕ, zero, suc, ◌+◌, Option, Result, slice_index, List, [], ◌∷◌, ◌++◌, None, Some, slice_get, false, true, length, nat_le, nat_lt, ◌&&◌, ◌<◌}
 use Rattle.fc_base.specs.Outside.{IsAtEnd, IsFront}
 use Rattle.run_meaning.specs.Runs.{Shown, bytes_on}
 use Rattle.run_meaning.specs.Worlds.{AreBytes, Input}
@@ -9,9 +9,13 @@ use Rattle.run_meaning.specs.declared.streams.Stream.TheVariants.{Input as OfInp
 use Rattle.bm_isa.specs.declared.instructions.Instr.{Instr}
 use Rattle.bm_isa.specs.declared.instructions.Instr.TheVariants as instr
 use Rattle.c_library.specs.declared.functions.LibFn.{LibFn}
-use Rattle.c_library.specs.Library.{call_of}
-use Rattle.bm_image.specs.Images.{bounds_of, ends_function}
-use Rattle.byte_machine.specs.State.{Core, State, Program, next}
+use Rattle.c_library.specs.declared.functions.LibFn.TheVariants as calls
+use Rattle.c_library.specs.Library.{row_of, call_of}
+use Rattle.library_meaning.specs.Rows.{Row, run}
+use Rattle.library_meaning.specs.OnBytes.{on_bytes, quiet, Does}
+use Rattle.library_meaning.specs.declared.stops.HostStop.{HostStop}
+use Rattle.bm_image.specs.Images.{bounds_of, function_at, ends_function}
+use Rattle.byte_machine.specs.State.{Core, State, Program, Window, next, perform, stopping, is_full, resumed}
 use Rattle.byte_machine.specs.Opening.{begun}
 use Rattle.byte_machine.specs.Machines.{Loaded, Reaches, end_of_stop, moved_next}
 use Rattle.byte_machine.specs.declared.machine.Stop.{Stop}
@@ -62,6 +66,46 @@ pub record StandsAtCall (l : Loaded) (call : LibFn) (checked : Bool) (to : ℕ) 
   pub stands : StandsAt l (instr.Host to number count)
   pub is : call_of number ≡ Some (call, checked)
 
+-- the first argument slots
+abbrev pub slots_from : ℕ → ℕ → List ℕ → List ℕ
+slots_from at zero slots = []
+slots_from at (suc n) slots = slice_index slots at ∷ slots_from (at + 1) n slots
+
+abbrev pub operands : LibFn → List ℕ → List ℕ
+operands f slots = slots_from 0 (length (row_of f).parameters) slots
+
+-- a call did to memory what its row says, and nothing where it has no row
+abbrev pub Did : Option Row → List ℕ → List ℕ → List ℕ → Option (Result ℕ HostStop) → Type 0
+Did None args old new None = new ≡ old
+Did None args old new (Some result) = ⊥
+Did (Some row) args old new None = ⊥
+Did (Some row) args old new (Some result) = Does args (run (on_bytes args) row old quiet) old new result
+
+-- a call that neither ends the run, acts on the heap nor writes
+abbrev pub is_plain : LibFn → Bool
+is_plain calls.Exit = false
+is_plain calls.Abort = false
+is_plain calls.Malloc = false
+is_plain calls.Calloc = false
+is_plain calls.Realloc = false
+is_plain calls.Free = false
+is_plain calls.Puts = false
+is_plain calls.Putchar = false
+is_plain calls.Write = false
+is_plain _ = true
+
+-- a call that ends the run or acts on the heap
+abbrev pub acts : LibFn → Bool
+acts calls.Exit = true
+acts calls.Abort = true
+acts _ = false
+
+-- the machine stands at an instruction that stops it so
+pub record Halts (l : Loaded) (stop : HostStop) : Type 0 where
+  pub i : Instr
+  pub stands : StandsAt l i
+  pub does : (input : Input) → perform l.program i (begun l.core input) ≡ stopping stop (begun l.core input)
+
 -- control goes on behind the instruction that a machine stands at
 abbrev pub GoesOn : Loaded → Type 0
 GoesOn l = (i : Instr) × StandsAt l i × (ends_function i ≡ false)
@@ -71,6 +115,18 @@ abbrev pub Lands : Loaded → ℕ → Type 0
 Lands l target =
     let bounds = bounds_of l.program.functions (length l.program.code) l.core.running.function in
     (nat_le bounds.first target && nat_lt target bounds.end) ≡ true
+
+-- a call of the function is entered: the machine stands at it, and the stack has room
+pub record Enters (l : Loaded) (function : ℕ) : Type 0 where
+  pub there : function < length l.program.functions
+  pub to : ℕ
+  pub stands : StandsAt l (instr.Call to function)
+  pub fits : is_full l.program (function_at l.program.functions function) l.core ≡ false
+
+-- the caller of the running call goes on with the number that its call gives. The first call has no caller
+abbrev pub resuming : Program → ℕ → List Window → Core → Core
+resuming program value [] core = core
+resuming program value (caller ∷ callers) core = record core { running = resumed program value caller; callers = callers }
 
 -- a machine that stops so
 abbrev pub stopped_with : Stop → Loaded → Loaded

@@ -1,5 +1,5 @@
 -- The machine's state and the table of its instructions. It knows addresses and numbers alone. This project's own.
-use Rattle.std.specs.Prelude.{ℕ, zero, suc, ◌+◌, ◌%◌, ◌^◌, List, [], ◌∷◌, ◌++◌, length, Bool, ◌&&◌, ◌||◌, not, ◌==◌, nat_lt, nat_le, cond, Option, None, Some, slice_get, slice_index, slice_range, slice_set, replicate, is_some, true, false}
+use Rattle.std.specs.Prelude.{ℕ, zero, suc, ◌+◌, ◌%◌, ◌^◌, List, [], ◌∷◌, ◌++◌, length, Bool, ◌&&◌, ◌||◌, not, ◌==◌, nat_lt, nat_le, cond, Option, None, Some, slice_get, slice_index, slice_range, slice_set, replicate, is_some, true, false, ◌-◌, take, sum_by, ◌*◌, min, Result, Ok, Err}
 use Rattle.std.specs.List.{splice}
 use Rattle.std.specs.Int.{from_le_bytes, to_le_bytes, w16, w32, w64}
 use Rattle.run_meaning.specs.Runs.{Shown, Standing, Ended, Going, on_descriptor}
@@ -11,13 +11,20 @@ use Rattle.bm_isa.specs.declared.instructions.Instr.{Instr}
 use Rattle.bm_isa.specs.declared.instructions.Instr.TheVariants as instr
 use Rattle.c_library.specs.declared.functions.LibFn.{LibFn}
 use Rattle.c_library.specs.declared.functions.LibFn.TheVariants as calls
-use Rattle.c_library.specs.Library.{call_of}
+use Rattle.c_library.specs.Library.{row_of, call_of}
 use Rattle.bm_image.specs.declared.images.FnRec.{FnRec}
+use Rattle.bm_image.specs.Images.{function_at}
 use Rattle.fc_base.specs.declared.levels.Width.{Width}
 use Rattle.fc_base.specs.declared.levels.Width.TheVariants as widths
 use Rattle.fc_base.specs.Widths.{width_bytes, extended}
 use Rattle.bm_arithmetic.specs.Arithmetic.{binary_value, divide_value}
-use Rattle.bm_heap.specs.Heaps.{Heap}
+use Rattle.bm_heap.specs.Heaps.{Heap, place_for, block_at, after_take, after_give}
+use Rattle.library_meaning.specs.Rows.{Row, Answer, run}
+use Rattle.library_meaning.specs.Table as table
+use Rattle.library_meaning.specs.Table.{no_limit}
+use Rattle.library_meaning.specs.OnBytes.{on_bytes, number_of}
+use Rattle.library_meaning.specs.declared.stops.HostStop.{HostStop}
+use Rattle.library_meaning.specs.declared.stops.HostStop.TheVariants as host
 use Rattle.library_meaning.specs.Memory.{memory_size, first_valid, are_valid, put, bytes_at}
 
 -- where the data section, the stack and the heap begin, and how much stack there is
@@ -140,57 +147,162 @@ showing shown s = record s { world = record s.world { shown = s.world.shown ++ s
 abbrev pub overflowing : State → State
 overflowing s = showing (on_descriptor 2 overflow_line) (with_core (ending ends.Overflow s.core) s)
 
--- glibc's `__memset_chk`
-abbrev pub memset_checked : ℕ → ℕ → ℕ → ℕ → ℕ → State → State
-memset_checked to d c n size s =
-    cond (nat_lt size n) (overflowing s)
-    (cond (are_valid d n)
-    (with_core (giving to d (record s.core { memory = put d (replicate n (c % 256)) s.core.memory })) s)
-    (with_core (ending ends.BadAddress s.core) s))
+-- the arguments of a library call, and the destination's size: that of a checked form stands behind them, and a plain form has no
+-- limit
+abbrev pub arguments : LibFn → Core → List ℕ
+arguments f core = take (length (row_of f).parameters) core.slots
 
--- what a library call does, checked or not, with that many argument slots and the register of its result. The calls that the
--- machine doesn't have yet do nothing
-abbrev pub host_call : LibFn → Bool → ℕ → ℕ → State → State
-host_call calls.Exit false count to s = with_core (ending (ends.Exit (slot_value s.core 0 % 256)) s.core) s
-host_call calls.Exit true count to s = s
-host_call calls.Abort false count to s = with_core (ending ends.Abort s.core) s
-host_call calls.Abort true count to s = s
-host_call calls.Malloc checked count to s = s
-host_call calls.Calloc checked count to s = s
-host_call calls.Realloc checked count to s = s
-host_call calls.Free checked count to s = s
-host_call calls.Memcpy checked count to s = s
-host_call calls.Memmove checked count to s = s
-host_call calls.Mempcpy checked count to s = s
-host_call calls.Memset false count to s = s
-host_call calls.Memset true count to s =
-    memset_checked to (slot_value s.core 0) (slot_value s.core 1) (slot_value s.core 2) (slot_value s.core 3) s
-host_call calls.Bzero checked count to s = s
-host_call calls.ExplicitBzero checked count to s = s
-host_call calls.Memcmp checked count to s = s
-host_call calls.Strcpy checked count to s = s
-host_call calls.Stpcpy checked count to s = s
-host_call calls.Strncpy checked count to s = s
-host_call calls.Strcat checked count to s = s
-host_call calls.Strncat checked count to s = s
-host_call calls.Strlen checked count to s = s
-host_call calls.Strcmp checked count to s = s
-host_call calls.Strchr checked count to s = s
-host_call calls.Printf checked count to s = s
-host_call calls.Puts checked count to s = s
-host_call calls.Putchar checked count to s = s
-host_call calls.Dprintf checked count to s = s
-host_call calls.Sprintf checked count to s = s
-host_call calls.Snprintf checked count to s = s
-host_call calls.Read checked count to s = s
-host_call calls.Write checked count to s = s
-host_call calls.Getchar checked count to s = s
-host_call calls.Note checked count to s = s
+abbrev pub size_of : LibFn → Bool → Core → ℕ
+size_of f checked core = cond checked (slot_value core (length (row_of f).parameters)) no_limit
+
+-- the library's row of a call that moves bytes in memory, whose destination has this size
+abbrev pub memory_row : LibFn → ℕ → Option Row
+memory_row calls.Memcpy size = Some (table.memcpy size)
+memory_row calls.Memmove size = Some (table.memmove size)
+memory_row calls.Mempcpy size = Some (table.mempcpy size)
+memory_row calls.Memset size = Some (table.memset size)
+memory_row calls.Bzero size = Some (table.bzero size)
+memory_row calls.ExplicitBzero size = Some (table.bzero size)
+memory_row calls.Memcmp size = Some table.memcmp
+memory_row calls.Strcpy size = Some (table.strcpy size)
+memory_row calls.Stpcpy size = Some (table.stpcpy size)
+memory_row calls.Strncpy size = Some (table.strncpy size)
+memory_row calls.Strcat size = Some (table.strcat size)
+memory_row calls.Strncat size = Some (table.strncat size)
+memory_row calls.Strlen size = Some table.strlen
+memory_row calls.Strcmp size = Some table.strcmp
+memory_row calls.Strchr size = Some table.strchr
+memory_row _ size = None
+
+-- the same, and those of the calls that write
+abbrev pub row_for : LibFn → ℕ → Option Row
+row_for calls.Puts size = Some table.puts
+row_for calls.Putchar size = Some table.putchar
+row_for calls.Write size = Some table.write
+row_for f size = memory_row f size
+
+-- a call stops the machine. No row over bytes stops with a fault of a stream
+abbrev pub stopping : HostStop → State → State
+stopping host.Overflow s = overflowing s
+stopping host.BadAddress s = with_core (ending ends.BadAddress s.core) s
+stopping host.BadFormat s = with_core (ending ends.BadFormat s.core) s
+stopping host.InputFault s = s
+stopping host.SinkFault s = s
+
+-- what a call did by its row, with the register of its result
+abbrev pub answered : ℕ → List ℕ → Result (Answer (List ℕ)) HostStop → State → State
+answered to args (Ok a) s = record { core = giving to (number_of args a.given) (record s.core { memory = a.memory }); world = a.world }
+answered to args (Err stop) s = stopping stop s
+
+abbrev pub by_row : ℕ → List ℕ → Option Row → State → State
+by_row to args None s = s
+by_row to args (Some row) s = answered to args (run (on_bytes args) row s.core.memory s.world) s
+
+-- the address of a block that was found, or a null pointer
+abbrev pub block_address : Option ℕ → ℕ
+block_address None = 0
+block_address (Some place) = heap_start + place
+
+-- n zero bytes in a block that was found
+abbrev pub zeroed : Option ℕ → ℕ → List ℕ → List ℕ
+zeroed None n memory = memory
+zeroed (Some place) n memory = put (heap_start + place) (replicate n 0) memory
+
+-- malloc(n), C11 7.22.3.4
+abbrev pub allocating : ℕ → ℕ → Core → Core
+allocating to n core = giving to (block_address (place_for n core.heap)) (record core { heap = after_take n core.heap })
+
+-- calloc(a, b), C11 7.22.3.2, by the product. One past 64 bits has no place
+abbrev pub clearing : ℕ → ℕ → Core → Core
+clearing to n core =
+    cond (nat_lt n (2 ^ 64))
+    (giving to (block_address (place_for n core.heap))
+    (record core { heap = after_take n core.heap; memory = zeroed (place_for n core.heap) n core.memory }))
+    (giving to 0 core)
+
+-- the size that was asked for of the live block at an address
+abbrev pub block_in : Heap → ℕ → Option ℕ
+block_in heap address = cond (nat_le heap_start address) (block_at heap (address - heap_start)) None
+
+-- free(p), C11 7.22.3.3: a null pointer is let be, and any other has to be a live block's address
+abbrev pub freed : ℕ → ℕ → Option ℕ → Core → Core
+freed to address None core = ending ends.BadAddress core
+freed to address (Some size) core = giving to 0 (record core { heap = after_give (address - heap_start) core.heap })
+
+abbrev pub freeing : ℕ → ℕ → Core → Core
+freeing to address core = cond (address == 0) (giving to 0 core) (freed to address (block_in core.heap address) core)
+
+-- realloc(p, n), C11 7.22.3.5: the new block is found while the old one lives, and takes as many of its bytes as it can. Where none
+-- is found the old one stays
+abbrev pub replaced : ℕ → ℕ → ℕ → ℕ → Option ℕ → Core → Core
+replaced to address kept n None core = giving to 0 core
+replaced to address kept n (Some place) core = giving to (heap_start + place) (record core {
+  heap = after_give (address - heap_start) (after_take n core.heap);
+  memory = put (heap_start + place) (bytes_at core.memory address kept) core.memory;
+})
+
+abbrev pub resized : ℕ → ℕ → ℕ → Option ℕ → Core → Core
+resized to address n None core = ending ends.BadAddress core
+resized to address n (Some size) core = replaced to address (min size n) n (place_for n core.heap) core
+
+abbrev pub reallocating : ℕ → ℕ → ℕ → Core → Core
+reallocating to address n core = cond (address == 0) (allocating to n core) (resized to address n (block_in core.heap address) core)
+
+-- what a library call does, checked or not, with the register of its result: it ends the run, acts on the heap, or does what its
+-- row says. The prints and the calls that read aren't built, and do nothing yet
+abbrev pub host_call : LibFn → Bool → ℕ → State → State
+host_call calls.Exit checked to s = with_core (ending (ends.Exit (slot_value s.core 0 % 256)) s.core) s
+host_call calls.Abort checked to s = with_core (ending ends.Abort s.core) s
+host_call calls.Malloc checked to s = with_core (allocating to (slot_value s.core 0) s.core) s
+host_call calls.Calloc checked to s = with_core (clearing to (slot_value s.core 0 * slot_value s.core 1) s.core) s
+host_call calls.Realloc checked to s = with_core (reallocating to (slot_value s.core 0) (slot_value s.core 1) s.core) s
+host_call calls.Free checked to s = with_core (freeing to (slot_value s.core 0) s.core) s
+host_call f checked to s = by_row to (arguments f s.core) (row_for f (size_of f checked s.core)) s
 
 -- the call of a number. A number that names none stands in no image
-abbrev pub numbered_call : Option (LibFn × Bool) → ℕ → ℕ → State → State
-numbered_call None count to s = s
-numbered_call (Some call) count to s = host_call call.0 call.1 count to s
+abbrev pub numbered_call : Option (LibFn × Bool) → ℕ → State → State
+numbered_call None to s = s
+numbered_call (Some call) to s = host_call call.0 call.1 to s
+
+-- the live calls from the newest on, and what their frames and their weights sum to
+abbrev pub live : Core → List Window
+live core = core.running ∷ core.callers
+
+abbrev pub frame_of : Program → Window → ℕ
+frame_of program w = (function_at program.functions w.function).frame
+
+abbrev pub weight_of : Program → Window → ℕ
+weight_of program w = (function_at program.functions w.function).weight
+
+abbrev pub frames_of : Program → List Window → ℕ
+frames_of program windows = sum_by (frame_of program) windows
+
+abbrev pub weights_of : Program → List Window → ℕ
+weights_of program windows = sum_by (weight_of program) windows
+
+-- a further call would pass the stack's frames or weights
+abbrev pub is_full : Program → FnRec → Core → Bool
+is_full program callee core =
+    nat_lt stack_frames (frames_of program (live core) + callee.frame) || nat_lt stack_weights (weights_of program (live core) + callee.weight)
+
+-- a call of a function: its first registers are the argument slots from 0 on, the others are zeros, and its frame stands behind
+-- the caller's
+abbrev pub window_of : Program → ℕ → FnRec → Core → Window
+window_of program function callee core = record {
+  function = function;
+  at = callee.first;
+  base = core.running.base + frame_of program core.running;
+  registers = take callee.params core.slots ++ replicate (callee.regs - callee.params) 0;
+}
+
+-- the running call waits for one of the function
+abbrev pub entering : Program → ℕ → FnRec → Core → Core
+entering program function callee core = record core { running = window_of program function callee core; callers = live core }
+
+-- the same, or the run ends where the stack is full
+abbrev pub calling : Program → ℕ → FnRec → Core → Core
+calling program function callee core =
+    cond (is_full program callee core) (ending ends.StackFull core) (entering program function callee core)
 
 -- the register that takes the result of a call, off the instruction that made it
 abbrev pub result_register : Option Instr → ℕ
@@ -208,7 +320,7 @@ abbrev pub returning : Program → ℕ → List Window → Core → Core
 returning program value [] core = ending (ends.Exit (value % 256)) core
 returning program value (caller ∷ callers) core = record core { running = resumed program value caller; callers = callers }
 
--- what each instruction does. The instructions that the machine doesn't have yet do nothing
+-- what each instruction does
 abbrev pub perform : Program → Instr → State → State
 perform program (instr.Const to number) s = with_core (giving to number s.core) s
 perform program (instr.Move to from) s = with_core (giving to (register s.core from) s.core) s
@@ -229,9 +341,9 @@ perform program (instr.Jump target) s = with_core (going_to target s.core) s
 perform program (instr.JumpIfZero test target) s = with_core (going_if (register s.core test == 0) target s.core) s
 perform program (instr.JumpIfNotZero test target) s = with_core (going_if (not (register s.core test == 0)) target s.core) s
 perform program (instr.Argument from k) s = with_core (passing from k s.core) s
-perform program (instr.Call to function) s = s
+perform program (instr.Call to function) s = with_core (calling program function (function_at program.functions function) s.core) s
 perform program (instr.Return from) s = with_core (returning program (register s.core from) s.core.callers s.core) s
-perform program (instr.Host to call count) s = numbered_call (call_of call) count to s
+perform program (instr.Host to call count) s = numbered_call (call_of call) to s
 
 -- the instruction that is there, if there is one
 abbrev pub performed : Program → Option Instr → State → State

@@ -5,6 +5,9 @@ mod laws;
 mod machine;
 mod memory;
 mod opening;
+mod rows;
+mod stack;
+mod windows;
 
 pub use laws::stopped_stays;
 pub use machine::{Machine, Step, Stop};

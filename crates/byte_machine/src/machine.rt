@@ -8,21 +8,28 @@ ghost use Rattle.run_meaning.specs.Objects.{Streams, StreamState, stream, stream
 ghost use Rattle.run_meaning.specs.declared.streams.Stream.{Stream};
 ghost use Rattle.bm_image.specs.Images.{plain_image, IsImage, function_at, bounds_of, host_takes, fits};
 ghost use Rattle.c_library.specs.declared.functions.LibFn.{LibFn};
-ghost use Rattle.byte_machine.specs.State.{number_at, low_bytes, register, slot_value, giving, going_on, going_to, passing};
+ghost use Rattle.byte_machine.specs.State.{number_at, low_bytes, register, slot_value, giving, going_on, going_to, passing, is_full, frame_of, entering, result_register, size_of, arguments, memory_row};
+ghost use Rattle.library_meaning.specs.declared.stops.HostStop.{HostStop};
+ghost use Rattle.byte_machine.specs.Calls.{waits};
 ghost use Rattle.library_meaning.specs.Memory.{are_valid, put, bytes_at};
 ghost use Rattle.byte_machine.specs.Opening.{program_of, first_core, first_end};
 ghost use Rattle.run_meaning.specs.Worlds.{ArgumentsFit};
 ghost use Rattle.byte_machine.specs.Machines.{fault_of, Advances, FailsAfter};
-ghost use Rattle.byte_machine.specs.Performing.{IsGoing, StandsAt, StandsAtCall, Names, GoesOn, Lands, stopped_with, Performs};
+ghost use Rattle.byte_machine.specs.Performing.{IsGoing, StandsAt, StandsAtCall, Names, GoesOn, Lands, stopped_with, Performs, Enters, resuming, Did, Halts, is_plain, acts};
 
 use crate::memory::{both_are_valid, bytes_of, number_at, store};
-use crate::opening::{open_memory, open_registers, open_stop};
+use crate::opening::{open_memory, open_stop, open_windows};
+use crate::rows::{is_plain, on_memory};
+use crate::stack::{STACK_FRAMES, STACK_START, STACK_WEIGHTS, least_weight};
+use crate::windows::Windows;
 use bm_arithmetic::{binary_value, divide_value};
+use bm_heap::Heap;
 use bm_image::{FnRec, Image};
 use bm_isa::{BinaryOp, DivideOp, DivideWidth, Instr};
 use c_library::{LibFn, host_call};
 use fc_base::{End, NoMemory, Sink, Source, Width, Words, extend};
 use host_bytes::{copy, fill, is_valid};
+use library_meaning::HostStop;
 use std::alloc::Global;
 use std::marker::Model;
 
@@ -49,20 +56,18 @@ const OVERFLOW_LINE: &[u8; 45] = b"*** buffer overflow detected ***: terminated\
 /// Where the data section begins.
 pub const DATA_START: u64 = 1_048_576;
 
-/// Where the frame of the first call begins.
-const STACK_START: u64 = 5_242_880;
-
 /// A machine that was opened on an image. It takes no memory.
 #[derive(Drop)]
 pub struct Machine {
     functions: Vec<FnRec>,
     code: Vec<Instr>,
     memory: Vec<u8>,
-    function: u32,
-    at: u32,
-    base: u64,
-    registers: Vec<u64>,
+    windows: Windows,
+    /// What the weights of the live calls sum to, and the least weight of a function.
+    weights: u32,
+    least: u32,
     slots: [u64; 64],
+    heap: Heap,
     stopped: Option<Stop>,
 }
 
@@ -89,17 +94,21 @@ impl Machine {
             ≡ option_map (λ end. Stop.Ended end) (first_end (function_at (plain_image image.now).functions image.now.entry))) }
     {
         let entry = image.functions[image.entry as usize];
+        let functions = Vec::from_slice(alloc, &image.functions)?;
+        let code = Vec::from_slice(alloc, &image.code)?;
+        let heap = Heap::new(alloc)?;
         let memory = open_memory(alloc, image, args)?;
-        let registers = open_registers(alloc, &entry, args)?;
+        let least = least_weight(&image.functions);
+        let windows = open_windows(alloc, image, args, least)?;
         Ok(Machine {
-            functions: Vec::from_slice(alloc, &image.functions)?,
-            code: Vec::from_slice(alloc, &image.code)?,
+            functions,
+            code,
             memory,
-            function: image.entry,
-            at: entry.first,
-            base: STACK_START,
-            registers,
+            windows,
+            weights: entry.weight,
+            least,
             slots: [0; 64],
+            heap,
             stopped: open_stop(&entry),
         })
     }
@@ -256,8 +265,7 @@ impl Machine {
                 from_at,
                 count,
             } => self.copy(to_at, from_at, count),
-            // no image has this yet
-            Instr::Call { .. } => self.stop(Stop::Ended(End::Abort)),
+            Instr::Call { to, function } => self.call(to, function),
         }
     }
 
@@ -418,15 +426,85 @@ impl Machine {
         self.goes_on()
     }
 
-    /// Ends the running call, which is the first one. Its end is the run's.
+    /// Calls a function, or ends the run where the stack is full.
+    fn call(&mut self, to: u32, function: u32) -> Step
+        requires running { IsGoing self.old }
+        requires instruction { StandsAt self.old (Instr.Call to function) }
+        requires callee { function < length self.old.program.functions }
+        ensures program { self.new.program ≡ self.old.program }
+        ensures performed { (all : Streams) → Performs self.old self.new result all all }
+    {
+        let _to = to;
+        if self.is_full(function) {
+            return self.stop(Stop::Ended(End::StackFull));
+        }
+        self.enter(function)
+    }
+
+    /// Whether a call of the function would pass the stack's frames or weights.
+    fn is_full(&self, function: u32) -> bool
+        requires { function < length self.now.program.functions }
+        ensures { result ≡ is_full self.now.program (function_at self.now.program.functions function) self.now.core }
+    {
+        let callee = self.functions[function as usize];
+        let end = self.frame_end() + callee.frame;
+        end > STACK_START + STACK_FRAMES || self.weights + callee.weight > STACK_WEIGHTS
+    }
+
+    /// The address behind the running call's frame.
+    fn frame_end(&self) -> u32
+        ensures { result ≡ self.now.core.running.base + frame_of self.now.program self.now.core.running }
+    {
+        self.windows.base() + self.functions[self.windows.function() as usize].frame
+    }
+
+    /// The running call waits for one of the function.
+    fn enter(&mut self, function: u32) -> Step
+        requires { Enters self.old function }
+        ensures state { self.new ≡ record self.old {
+          core = entering self.old.program function (function_at self.old.program.functions function) self.old.core;
+        } }
+        ensures step { result ≡ Step.Going }
+    {
+        let callee = self.functions[function as usize];
+        let base = self.frame_end();
+        let given = &self.slots[..callee.params as usize];
+        self.windows
+            .enter(function, callee.first, base, given, callee.regs);
+        self.weights += callee.weight;
+        Step::Going
+    }
+
+    /// Ends the running call. The end of the first one is the run's.
     fn leave(&mut self, from: u32) -> Step
         requires running { IsGoing self.old }
         requires instruction { StandsAt self.old (Instr.Return from) }
         ensures program { self.new.program ≡ self.old.program }
         ensures performed { (all : Streams) → Performs self.old self.new result all all }
     {
-        let low = (self.registers[from as usize] % 256) as u8;
-        self.stop(Stop::Ended(End::Exit(low)))
+        let value = self.register(from);
+        if self.resume(value) {
+            Step::Going
+        } else {
+            self.stop(Stop::Ended(End::Exit((value % 256) as u8)))
+        }
+    }
+
+    /// The caller goes on with the number that its call gives. Nothing where the running call is the first one.
+    fn resume(&mut self, value: u64) -> bool
+        ensures state { self.new ≡ record self.old { core = resuming self.old.program value self.old.core.callers self.old.core } }
+        ensures waited { result ≡ waits self.old.core.callers }
+    {
+        let weight = self.functions[self.windows.function() as usize].weight;
+        if !self.windows.leave() {
+            return false;
+        }
+        self.weights -= weight;
+        let at = self.windows.at();
+        let to = result_register(&self.code[at as usize]);
+        self.windows.set(to, value);
+        self.windows.stand_at(at + 1);
+        true
     }
 
     /// Carries out a library call.
@@ -450,52 +528,36 @@ impl Machine {
             Performs self.old self.new result before after }
     {
         match host_call(call) {
-            Some((LibFn::Exit, false)) => self.exit(to),
-            Some((LibFn::Abort, false)) => self.abort(to),
-            Some((LibFn::Memset, true)) => self.set_memory(to, err),
-            // no image has the others yet
-            Some((LibFn::Exit | LibFn::Abort, true) | (LibFn::Memset, false))
-            | Some(
-                (
-                    LibFn::Malloc
-                    | LibFn::Calloc
-                    | LibFn::Realloc
-                    | LibFn::Free
-                    | LibFn::Memcpy
-                    | LibFn::Memmove
-                    | LibFn::Mempcpy
-                    | LibFn::Bzero
-                    | LibFn::ExplicitBzero
-                    | LibFn::Memcmp
-                    | LibFn::Strcpy
-                    | LibFn::Stpcpy
-                    | LibFn::Strncpy
-                    | LibFn::Strcat
-                    | LibFn::Strncat
-                    | LibFn::Strlen
-                    | LibFn::Strcmp
-                    | LibFn::Strchr
-                    | LibFn::Printf
-                    | LibFn::Puts
-                    | LibFn::Putchar
-                    | LibFn::Dprintf
-                    | LibFn::Sprintf
-                    | LibFn::Snprintf
-                    | LibFn::Read
-                    | LibFn::Write
-                    | LibFn::Getchar
-                    | LibFn::Note,
-                    _,
-                ),
-            )
-            | None => self.stop(Stop::Ended(End::Abort)),
+            Some((f, checked)) => {
+                if is_plain(f) {
+                    self.move_bytes(f, checked, to, err)
+                } else {
+                    self.act(f, checked, to)
+                }
+            }
+            None => unreachable!(),
+        }
+    }
+
+    /// A call that ends the run.
+    fn act(&mut self, f: LibFn, checked: bool, to: u32) -> Step
+        requires running { IsGoing self.old }
+        requires call { StandsAtCall self.old f checked to }
+        requires acts { acts f ≡ true }
+        ensures program { self.new.program ≡ self.old.program }
+        ensures performed { (all : Streams) → Performs self.old self.new result all all }
+    {
+        match f {
+            LibFn::Exit => self.exit(checked, to),
+            LibFn::Abort => self.abort(checked, to),
+            _ => unreachable!(),
         }
     }
 
     /// C11's `exit`: the run ends with the low byte of the status.
-    fn exit(&mut self, to: u32) -> Step
+    fn exit(&mut self, checked: bool, to: u32) -> Step
         requires running { IsGoing self.old }
-        requires call { StandsAtCall self.old LibFn.Exit false to }
+        requires call { StandsAtCall self.old LibFn.Exit checked to }
         ensures program { self.new.program ≡ self.old.program }
         ensures performed { (all : Streams) → Performs self.old self.new result all all }
     {
@@ -505,9 +567,9 @@ impl Machine {
     }
 
     /// C11's `abort`.
-    fn abort(&mut self, to: u32) -> Step
+    fn abort(&mut self, checked: bool, to: u32) -> Step
         requires running { IsGoing self.old }
-        requires call { StandsAtCall self.old LibFn.Abort false to }
+        requires call { StandsAtCall self.old LibFn.Abort checked to }
         ensures program { self.new.program ≡ self.old.program }
         ensures performed { (all : Streams) → Performs self.old self.new result all all }
     {
@@ -515,30 +577,64 @@ impl Machine {
         self.stop(Stop::Ended(End::Abort))
     }
 
-    /// glibc's `__memset_chk`, with the place, the byte, the count and the size in the argument slots.
-    fn set_memory<E: Sink>(&mut self, to: u32, err: &mut E) -> Step
+    /// A call that moves bytes in memory, by its row. One that has none does nothing.
+    fn move_bytes<E: Sink>(&mut self, f: LibFn, checked: bool, to: u32, err: &mut E) -> Step
         requires running { IsGoing self.old }
-        requires call { StandsAtCall self.old LibFn.Memset true to }
+        requires call { StandsAtCall self.old f checked to }
+        requires plain { is_plain f ≡ true }
         ensures program { self.new.program ≡ self.old.program }
         ensures performed { (input out : StreamState) →
             let before = streams input out (stream (E.written err.old) (E.count err.old)) in
             let after = streams input out (stream (E.written err.new) (E.count err.new)) in
             Performs self.old self.new result before after }
     {
-        let place = self.slot(0);
-        let count = self.slot(2);
-        if count > self.slot(3) {
-            return match err.write(OVERFLOW_LINE) {
+        let size = self.size_of(f, checked);
+        match self.on_memory(f, size) {
+            Some(Ok(number)) => self.give(to, number),
+            Some(Err(stop)) => self.halt(stop, err),
+            None => Step::Going,
+        }
+    }
+
+    /// The size of a call's destination, without a limit where the call is not checked.
+    fn size_of(&self, f: LibFn, checked: bool) -> u64
+        ensures { result ≡ size_of f checked self.now.core }
+    {
+        if checked {
+            self.slot(f.parameters().len())
+        } else {
+            u64::MAX
+        }
+    }
+
+    /// Carries out a call on the bytes of memory.
+    fn on_memory(&mut self, f: LibFn, size: u64) -> Option<Result<u64, HostStop>>
+        ensures state { self.new ≡ record self.old { core = record self.old.core { memory = self.new.core.memory } } }
+        ensures did { Did (memory_row f size) (arguments f self.old.core) self.old.core.memory self.new.core.memory result }
+    {
+        on_memory(f, &mut self.memory, &self.slots, size)
+    }
+
+    /// A call stops the machine. One that exceeds writes glibc's line.
+    fn halt<E: Sink>(&mut self, stop: HostStop, err: &mut E) -> Step
+        requires running { IsGoing self.old }
+        requires halts { Halts self.old stop }
+        ensures program { self.new.program ≡ self.old.program }
+        ensures performed { (input out : StreamState) →
+            let before = streams input out (stream (E.written err.old) (E.count err.old)) in
+            let after = streams input out (stream (E.written err.new) (E.count err.new)) in
+            Performs self.old self.new result before after }
+    {
+        match stop {
+            HostStop::Overflow => match err.write(OVERFLOW_LINE) {
                 Ok(()) => self.stop(Stop::Ended(End::Overflow)),
                 Err(_) => self.stop(Stop::ErrFault),
-            };
+            },
+            HostStop::BadAddress => self.stop(Stop::Ended(End::BadAddress)),
+            HostStop::BadFormat => self.stop(Stop::Ended(End::BadFormat)),
+            HostStop::InputFault => Step::Going,
+            HostStop::SinkFault => Step::Going,
         }
-        if !is_valid(place, count) {
-            return self.stop(Stop::Ended(End::BadAddress));
-        }
-        let byte = (self.slot(1) % 256) as u8;
-        self.fill(place, byte, count);
-        self.give(to, place)
     }
 
     /// The instruction that the machine stands at.
@@ -546,7 +642,7 @@ impl Machine {
         ensures stands { StandsAt self.now result }
         ensures fits { fits (bounds_of self.now.program.functions (length self.now.program.code) self.now.core.running.function) result ≡ true }
     {
-        self.code[self.at as usize]
+        self.code[self.windows.at() as usize]
     }
 
     /// A register of the running call.
@@ -554,14 +650,14 @@ impl Machine {
         requires { Names self.now r }
         ensures { result ≡ register self.now.core r }
     {
-        self.registers[r as usize]
+        self.windows.register(r)
     }
 
     /// An address in the running call's frame.
     fn frame_address(&self, offset: u32) -> u64
         ensures { result ≡ self.now.core.running.base + offset }
     {
-        self.base + u64::from(offset)
+        u64::from(self.windows.base()) + u64::from(offset)
     }
 
     /// An argument slot.
@@ -624,7 +720,7 @@ impl Machine {
         ensures state { self.new ≡ record self.old { core = going_on self.old.core } }
         ensures step { result ≡ Step.Going }
     {
-        self.at += 1;
+        self.windows.stand_at(self.windows.at() + 1);
         Step::Going
     }
 
@@ -634,7 +730,7 @@ impl Machine {
         ensures state { self.new ≡ record self.old { core = going_to target self.old.core } }
         ensures step { result ≡ Step.Going }
     {
-        self.at = target;
+        self.windows.stand_at(target);
         Step::Going
     }
 
@@ -645,7 +741,7 @@ impl Machine {
         ensures state { self.new ≡ record self.old { core = giving to number self.old.core } }
         ensures step { result ≡ Step.Going }
     {
-        self.registers[to as usize] = number;
+        self.windows.set(to, number);
         self.goes_on()
     }
 
@@ -655,7 +751,17 @@ impl Machine {
         ensures state { self.new ≡ record self.old { core = passing from slot self.old.core } }
         ensures step { result ≡ Step.Going }
     {
-        self.slots[slot as usize] = self.registers[from as usize];
+        self.slots[slot as usize] = self.windows.register(from);
         self.goes_on()
+    }
+}
+
+/// The register that takes the result of a call, off the instruction that made it.
+fn result_register(instruction: &Instr) -> u32
+    ensures { result ≡ result_register (Some instruction.now) }
+{
+    match *instruction {
+        Instr::Call { to, .. } => to,
+        _ => 0,
     }
 }

@@ -1,23 +1,21 @@
 //! Opening a machine: all memory of a run is taken here.
 
-ghost use Rattle.std.specs.Prelude.{◌≡◌, ℕ, ◌+◌, ◌≤◌, ◌<◌, ◌++◌, None, Some, length, vec_len, replicate, IfOk, slice_get};
+ghost use Rattle.std.specs.Prelude.{◌≡◌, ℕ, ◌+◌, ◌≤◌, ◌<◌, ◌++◌, None, Some, length, vec_len, replicate, IfOk, slice_get, [], ◌/◌};
 ghost use Rattle.std.specs.List.{flat_map};
 ghost use Rattle.std.specs.Option.{option_map};
 ghost use Rattle.bm_image.specs.Images.{plain_image, IsImage};
 ghost use Rattle.library_meaning.specs.Memory.{memory_size, put};
 ghost use Rattle.run_meaning.specs.Worlds.{ArgumentsFit};
-ghost use Rattle.byte_machine.specs.Opening.{argument_words, argument_section, string_room, string_block, argv_address, first_registers, first_end, first_memory};
+ghost use Rattle.byte_machine.specs.Opening.{argument_words, argument_section, string_room, string_block, argv_address, first_end, first_memory, first_core};
+ghost use Rattle.byte_machine.specs.State.{stack_weights};
 
 use crate::machine::{DATA_START, Stop};
+use crate::stack::{STACK_FRAMES, STACK_START, STACK_WEIGHTS};
+use crate::windows::{Mark, Windows};
 use bm_image::{FnRec, Image};
 use fc_base::{End, NoMemory, Words};
 use host_bytes::{FIRST_VALID, MEMORY_SIZE};
 use std::alloc::Global;
-
-/// The most that the frames and the weights of the live calls may sum to.
-const STACK_FRAMES: u32 = 4_194_304;
-
-const STACK_WEIGHTS: u32 = 16_777_216;
 
 /// The bytes of memory before the first instruction.
 pub fn open_memory(alloc: Global, image: &Image, args: &Words) -> Result<Vec<u8>, NoMemory>
@@ -33,19 +31,36 @@ pub fn open_memory(alloc: Global, image: &Image, args: &Words) -> Result<Vec<u8>
     Ok(memory)
 }
 
-/// The registers of the entry before the first instruction.
-pub fn open_registers(alloc: Global, entry: &FnRec, args: &Words) -> Result<Vec<u64>, NoMemory>
-    requires params { entry.now.params ≤ entry.now.regs }
+/// The first call, and room for as many as can wait where each has the least weight.
+pub fn open_windows(
+    alloc: Global,
+    image: &Image,
+    args: &Words,
+    least: u32,
+) -> Result<Windows, NoMemory>
+    requires image { IsImage (plain_image image.now) }
     requires arguments { ArgumentsFit args.now }
-    ensures items { IfOk result (λ registers. registers.items ≡ first_registers entry.now args.now) }
-    ensures count { IfOk result (λ registers. vec_len registers ≡ entry.now.regs) }
+    requires least { 1 ≤ least }
+    ensures { IfOk result (λ windows. windows ≡ record {
+      running = (first_core (plain_image image.now) args.now).running;
+      callers = [];
+      room = stack_weights / least;
+    }) }
 {
-    let mut registers = vec![in alloc; 0; entry.regs as usize]?;
+    let entry = image.functions[image.entry as usize];
+    let first = Mark {
+        function: image.entry,
+        at: entry.first,
+        base: STACK_START,
+        start: 0,
+    };
+    let room = (STACK_WEIGHTS / least) as usize;
     if entry.params == 2 {
-        registers[0] = count(args) as u64;
-        registers[1] = argv_address(args);
+        let given = [count(args) as u64, argv_address(args)];
+        Windows::open(alloc, first, &given, entry.regs, room)
+    } else {
+        Windows::open(alloc, first, &[], entry.regs, room)
     }
-    Ok(registers)
 }
 
 /// An entry that alone passes the stack's limits stops the machine at once.

@@ -34,7 +34,8 @@ invariant_of-self c =
     let len = h.sizes.ok.0 in
     let places = c.self.invariant.places in
     let items = c.give_to.ensures.holes ∙ ap (λ n. give_to c.args.place n h.holes.items) c.block_bytes.ensures in
-    let kept = give_kept h.holes.items c.give_to.new.holes.items h.sizes.items c.in-Some.size c.args.place 0 c.self.invariant.heap c.self.invariant.aligned (omega (arith, len, places)) found
+    let kept = give_kept h.holes.items c.give_to.new.holes.items h.sizes.items c.in-Some.size c.args.place 0 c.self.invariant.heap
+    c.self.invariant.aligned (omega (arith, len, places)) found
     (block_aligned (heap_of h) c.args.place c.in-Some.size found) items refl in
     record {
       heap = kept.0;

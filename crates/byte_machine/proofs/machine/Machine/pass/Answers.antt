@@ -1,12 +1,12 @@
 -- A register that the instruction names, and a slot that is there.
-use Rattle.std.proofs.Common.{refl, ◌∙◌}
+use Rattle.std.proofs.Common.{refl}
 use Rattle.std.proofs.lemmas.Bool.{ltb-true}
 use Rattle.bm_isa.specs.declared.instructions.Instr.TheVariants as instr
-use Rattle.byte_machine.proofs.Steps.{stands_in, stands_fits, register_in, register_read, second_test}
+use Rattle.byte_machine.proofs.Steps.{stands_in, stands_fits, register_in, second_test}
 use Rattle.byte_machine.proofs.machine.Machine.pass.Goals as goal
 
-pub index-requires : goal.index-requires
-index-requires c =
+pub register-requires : goal.register-requires
+register-requires c =
     let m = c.self.inside in
     let i = instr.Argument c.args.from c.args.slot in
     register_in m i 0 c.args.from c.self.invariant (stands_in m c.args.self.now i c.self.view_is c.requires) refl
@@ -21,11 +21,3 @@ pub goes_on-requires : goal.goes_on-requires
 goes_on-requires c =
     let i = instr.Argument c.args.from c.args.slot in
     (i, stands_in c.self.inside c.args.self.now i c.self.view_is c.requires, refl)
-
-pub returns-clause-state : goal.returns-clause-state
-returns-clause-state c =
-    let m = c.self.inside in
-    let i = instr.Argument c.args.from c.args.slot in
-    let below = register_in m i 0 c.args.from c.self.invariant (stands_in m c.args.self.now i c.self.view_is c.requires) refl in
-    let read = register_read m c.args.from c.index.result.now c.index.ensures below in
-    c.goes_on.ensures.state ∙ rw (← c.self.view_is, read) refl
