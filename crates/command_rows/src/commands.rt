@@ -62,7 +62,7 @@ fn outcome_of(
 }
 
 /// Asserts what the words come to with an err that has no room.
-fn assert_outcome(
+pub fn assert_outcome(
     rt: &impl Abort,
     alloc: Global,
     list: &[&str],
@@ -274,8 +274,20 @@ const USAGE: &[&[&str]] = &[
     &["run", "a", "-b"],
     &["run", "", "b"],
     &["run", "a", "b", "c"],
+    &["run", "a", "b", "--steps", "5"],
+    &["run", "--steps", "0", "a", "b"],
+    &["run", "--steps", "1099511627777", "a", "b"],
     &["build", "a", "b"],
     &["run", "--level", "3", "a", "b"],
+    &["run", "--sizes", "--steps", "5", "a", "b"],
+    &["exec"],
+    &["exec", "--steps", "5"],
+    &["exec", "--steps", "05", "a"],
+    &["exec", "--steps", "+5", "a"],
+    &["exec", "-a"],
+    &["exec", ""],
+    &["exec", "a", "b"],
+    &["exec", "--level", "3", "a"],
 ];
 
 fn assert_usage(rt: &impl Abort, alloc: Global, list: &[&str]) -> Result<(), NoMemory> {
@@ -284,7 +296,7 @@ fn assert_usage(rt: &impl Abort, alloc: Global, list: &[&str]) -> Result<(), NoM
 }
 
 #[test]
-fn run_has_two_names(rt: HostRuntime) -> Result<(), Fail> {
+fn words_that_are_no_command(rt: HostRuntime) -> Result<(), Fail> {
     for &list in USAGE {
         assert_usage(&rt, rt.alloc(), list)?;
     }
@@ -320,6 +332,45 @@ fn assert_image(rt: &impl Abort, alloc: Global, store: &mut MemStore) -> Result<
     let exits = Outcome::Ran(End::Exit(3));
     assert_outcome(rt, alloc, &["run", "a", "b"], store, exits)?;
     assert_kept(rt, store, "b", IMAGE);
+    Ok(())
+}
+
+/// Keeps the image of a form that overflows under b: the call that does so is its ninth instruction.
+fn keep_overflow(rt: &impl Abort, alloc: Global, store: &mut MemStore) -> Result<(), NoMemory> {
+    store.put("a", OVER)?;
+    let words = &["run", "--steps", "8", "a", "b", "--", "c"];
+    assert_outcome(rt, alloc, words, store, Outcome::OutOfSteps)
+}
+
+/// Asserts what the image under b comes to with an err of that room.
+fn assert_executed(
+    rt: &impl Abort,
+    alloc: Global,
+    store: &mut MemStore,
+    room: usize,
+    outcome: Outcome,
+) -> Result<(), NoMemory> {
+    let mut err = MemSink::sized(alloc, room)?;
+    let found = outcome_of(rt, alloc, &["exec", "--steps", "9", "b"], store, &mut err)?;
+    let written = &OVERFLOW[..room.min(OVERFLOW.len())];
+    assert_same(rt, (found, err.bytes()), (outcome, written));
+    Ok(())
+}
+
+/// Asserts what comes of an image that was kept.
+fn assert_kept_runs(rt: &impl Abort, alloc: Global, store: &mut MemStore) -> Result<(), NoMemory> {
+    keep_overflow(rt, alloc, store)?;
+    assert_executed(rt, alloc, store, 45, Outcome::Ran(End::Overflow))?;
+    assert_executed(rt, alloc, store, 44, Outcome::ErrFault)
+}
+
+#[test]
+fn what_is_kept_is_executed(rt: HostRuntime) -> Result<(), Fail> {
+    let alloc = rt.alloc();
+    let mut store = MemStore::new(alloc);
+    let asserted = assert_kept_runs(&rt, alloc, &mut store);
+    drop(store);
+    asserted?;
     Ok(())
 }
 

@@ -5,6 +5,8 @@
 #[cfg(test)]
 mod commands;
 #[cfg(test)]
+mod images;
+#[cfg(test)]
 mod outcomes;
 #[cfg(test)]
 mod sources;

@@ -1,6 +1,7 @@
 //! The outcomes of commands with their statuses and lines.
 
 use crate::values::assert_same;
+use bm_image::{ImageFault, ImageKind};
 use fc_base::{End, NoMemory, Place, Refusal, Rule, UndefKind};
 use fort_driver::{Outcome, fault_line, status};
 use std::alloc::Global;
@@ -50,6 +51,22 @@ const OUTCOMES: &[(Outcome, u8, &str)] = &[
         }),
         122,
         "fortc: 2:401: refused: macro-arguments\n",
+    ),
+    (
+        Outcome::ImageRefused(ImageFault {
+            kind: ImageKind::Instruction,
+            offset: 52,
+        }),
+        123,
+        "fortc: image refused: instruction at 52\n",
+    ),
+    (
+        Outcome::ImageRefused(ImageFault {
+            kind: ImageKind::Short,
+            offset: 134_217_728,
+        }),
+        123,
+        "fortc: image refused: short at 134217728\n",
     ),
     (Outcome::OutOfSteps, 124, "fortc: out of steps\n"),
     (Outcome::NoMemory, 125, "fortc: no memory\n"),

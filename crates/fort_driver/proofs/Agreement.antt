@@ -1,6 +1,7 @@
 -- The image of a form is an image, and does what the form means.
-use Rattle.std.proofs.Common.{◌≡◌, ℕ, zero, suc, ◌+◌, ◌%◌, ◌<◌, ◌≤◌, ◌^◌, List, [], ◌∷◌, length, Bool, true, false, ◌||◌, nat_lt, max, cond, Option, None, Some, IsTrue, inl, inr, refl, sym, ◌∙◌, ap, subst, arith, replicate, lit≤, lit<, zero-add, ◌-◌}
+use Rattle.std.proofs.Common.{◌≡◌, ℕ, zero, suc, ◌+◌, ◌%◌, ◌<◌, ◌≤◌, ◌^◌, List, [], ◌∷◌, length, Bool, true, false, ◌||◌, nat_lt, max, cond, Option, None, Some, IsTrue, inl, inr, refl, sym, ◌∙◌, ap, subst, arith, replicate, lit≤, lit<, zero-add, ◌-◌, Ok, Err, if◌then◌else◌}
 use Rattle.std.specs.List.{list_all}
+use Rattle.std.proofs.lemmas.List.{length-replicate}
 use Rattle.std.proofs.lemmas.Bool.{lt-ltb, le-ltb, le-leb, ltb-false, cases_lt, and_from, and_parts, or_right}
 use Rattle.bm_isa.specs.declared.instructions.Instr.{Instr}
 use Rattle.bm_isa.specs.declared.instructions.Instr.TheVariants as instr
@@ -12,8 +13,12 @@ use Rattle.fc_base.specs.declared.levels.Level.TheVariants as levels
 use Rattle.fc_base.specs.declared.levels.Mode.TheVariants as modes
 use Rattle.bm_image.specs.Images.{IsImage, IsFunction, function_at, end_of, bounds_of, fits, ends_function, memset_chk, instruction_or}
 use Rattle.bm_heap.specs.Heaps.{whole_heap}
-use Rattle.byte_machine.specs.State.{Core, State, Program, stack_start, stack_frames, ending, with_core, overflowing, next, after, standing_of}
+use Rattle.byte_machine.specs.State.{Core, State, Program, stack_start, stack_frames, ending, overflowing, answered, next, after, standing_of}
 use Rattle.library_meaning.specs.Memory.{memory_size, are_valid, put}
+use Rattle.library_meaning.specs.Rows.{Behind, answer}
+use Rattle.library_meaning.specs.OnBytes.{valid_then}
+use Rattle.library_meaning.specs.Scan.{and_then}
+use Rattle.library_meaning.specs.declared.stops.HostStop.TheVariants as host
 use Rattle.byte_machine.specs.Opening.{begun, first_core, first_end, first_memory, program_of, rounded}
 use Rattle.byte_machine.proofs.Steps.{next_is}
 use Rattle.fort_forms.specs.declared.Form.{Form}
@@ -69,6 +74,24 @@ before_call : (form : Form) (memory slots : List ℕ) (input : Input)
 unfolding after next
 before_call form memory slots input = refl
 
+-- the operands of the call's row, and what the row comes to by its two tests
+abbrev operands : Form → List ℕ
+operands form = stack_start ∷ form.byte ∷ form.count ∷ []
+
+abbrev stored : Form → State → Bool → Bool → State
+stored form s exceeds valid = answered 0 (operands form)
+    (if exceeds then Err host.Overflow
+    else and_then (valid_then valid (array_set form s.core.memory)) (λ memory. Ok (answer memory s.world (Behind 0 0)))) s
+
+stored_by : (form : Form) (memory slots : List ℕ) (input : Input) (exceeds valid : Bool)
+    → stored form (begun (standing memory 8 (given form []) (given form slots)) input) exceeds valid
+    ≡ cond exceeds (overflowing (begun (standing memory 8 (given form []) (given form slots)) input))
+    (cond valid (begun (standing (array_set form memory) 9 (given form []) (given form slots)) input)
+    (begun (ending ends.BadAddress (standing memory 8 (given form []) (given form slots))) input))
+stored_by form memory slots input true valid = refl
+stored_by form memory slots input false true = refl
+stored_by form memory slots input false false = refl
+
 -- the call, by its two tests
 at_call : (form : Form) (memory slots : List ℕ) (input : Input) (exceeds valid : Bool) → nat_lt form.size form.count ≡ exceeds → are_valid stack_start form.count ≡ valid
     → after (form_program form) 9 (begun (fresh memory slots) input)
@@ -78,12 +101,12 @@ at_call : (form : Form) (memory slots : List ℕ) (input : Input) (exceeds valid
 unfolding after
 at_call form memory slots input exceeds valid first second =
     let s = begun (standing memory 8 (given form []) (given form slots)) input in
-    let yes = begun (standing (array_set form memory) 9 (given form []) (given form slots)) input in
-    let no = with_core (ending ends.BadAddress s.core) s in
     ap (next (form_program form)) (before_call form memory slots input)
     ∙ next_is (form_program form) s (instr.Host 0 memset_chk 4) refl refl
-    ∙ ap (λ t. cond t (overflowing s) (cond (are_valid stack_start form.count) yes no)) first
-    ∙ ap (λ t. cond exceeds (overflowing s) (cond t yes no)) second
+    ∙ ap (λ n. stored form s (nat_lt form.size form.count) (are_valid stack_start n)) (length-replicate form.count (form.byte % 256))
+    ∙ ap (λ t. stored form s t (are_valid stack_start form.count)) first
+    ∙ ap (λ t. stored form s exceeds t) second
+    ∙ stored_by form memory slots input exceeds valid
 
 -- two more return the result
 returns : (form : Form) (memory slots : List ℕ) (input : Input)
@@ -97,7 +120,7 @@ may_be_set : (count : ℕ) → count ≤ 4096 → are_valid stack_start count �
 may_be_set count few = let room : stack_start + count ≤ memory_size = omega arith in or_right _ _ (le-leb (stack_start + count) memory_size room)
 
 -- the stack has room for main, so the run begins
-pub let_in : (form : Form) → IsForm form → first_end (form_function form) ≡ None
+let_in : (form : Form) → IsForm form → first_end (form_function form) ≡ None
 let_in form ok =
     let most = rounded_most (form.size + 1) (omega arith) in
     ap (λ t. cond (t || false) (Some ends.StackFull) None) (le-ltb stack_frames (rounded (form.size + 1)) (omega arith))

@@ -1,8 +1,7 @@
 -- The one answer of `run`, by the bytes under FILE.
-use Rattle.std.proofs.Common.{◌≡◌, ℕ, ◌≤◌, ◌<◌, List, [], length, Bool, false, Option, Some, Result, Ok, Err, refl, sym, ◌∙◌, ap, subst, inl, inr, arith}
+use Rattle.std.proofs.Common.{◌≡◌, ℕ, ◌≤◌, ◌<◌, List, length, false, Option, Some, Result, Ok, Err, refl, sym, ◌∙◌, ap, subst, inl, inr, arith}
 use Rattle.fc_base.specs.Outside.{Files}
 use Rattle.fc_base.specs.declared.levels.End.{End}
-use Rattle.fc_base.specs.declared.levels.Level.{Level}
 use Rattle.fc_base.specs.declared.levels.Level.TheVariants.{Three}
 use Rattle.fc_base.specs.declared.refusals.Refusal.{Refusal}
 use Rattle.run_meaning.specs.Objects.{StoreState, Streams, Offers, Failed, NoneFailed, outside}
@@ -21,13 +20,13 @@ use Rattle.fort_words.specs.declared.Outcome.TheVariants as outcomes
 use Rattle.fort_words.specs.Commands.{Command, level_of, sizes_of, steps_of, args_of, fetched_of, longest_of}
 use Rattle.fort_driver.specs.Compiled.{form_image}
 use Rattle.fort_driver.specs.Forms.{form_meaning}
-use Rattle.fort_driver.specs.Fort.{Holds, CompilesFor, ComesTo, OfMachine, OfCompiling, OfQuietRun, NotCompiled, KeepsCounts, StoodStill, EndsWithin, RunAnswers, RunPromise, fault_outcome, meaning_for}
+use Rattle.fort_driver.specs.Fort.{Holds, CompilesFor, ComesTo, OfMachine, OfCompiling, OfQuietRun, NotCompiled, KeepsCounts, StoodStill, EndsWithin, RunAnswers, RunPromise, fault_outcome}
 use Rattle.fort_driver.specs.Agreeing.{source_runs, end_bound, weight_of}
 use Rattle.fort_driver.specs.Preparing.{IsReady}
 use Rattle.fort_driver.proofs.Agreement.{ended_by, shown_then, form_shows}
 
 -- what is told is what was fetched
-same_source : (files : Option Files) (f : Files) (file source fetched : List ℕ) → files ≡ Some f → f file ≡ Some source → Holds files file fetched → fetched ≡ source
+pub same_source : (files : Option Files) (f : Files) (file source fetched : List ℕ) → files ≡ Some f → f file ≡ Some source → Holds files file fetched → fetched ≡ source
 same_source files f file source fetched told here holds =
     let there : Holds (Some f) file fetched = subst (λ x. Holds x file fetched) told holds in
     cc (there, here)
@@ -102,10 +101,10 @@ of_machine outcomes.ErrFault bound program core x y runs = tt
 of_machine _ bound program core x y runs = absurd runs
 
 -- a stream's fault comes only where its count rose
-abbrev FailsBy : Outcome → Streams → Streams → Type 0
+abbrev pub FailsBy : Outcome → Streams → Streams → Type 0
 FailsBy outcome x y = (which : Stream) → outcome ≡ fault_outcome which → Failed which x y
 
-quiet : (outcome : Outcome) (x y : Streams) → OfMachine outcome → FailsBy outcome x y → NoneFailed x y → OfQuietRun outcome
+pub quiet : (outcome : Outcome) (x y : Streams) → OfMachine outcome → FailsBy outcome x y → NoneFailed x y → OfQuietRun outcome
 quiet (outcomes.Ran end) x y of fails none = tt
 quiet outcomes.OutOfSteps x y of fails none = tt
 quiet outcomes.InputFault x y of fails none = absurd (none OfInput (fails OfInput refl))
@@ -155,8 +154,8 @@ ready_answers outcome command source old new x y f machine ready runs fails told
     let short : length source ≤ longest_of command = subst (λ s. length s ≤ longest_of command) same compiled.1.short in
     let read = subst (λ s. CompilesFor command s (Ok form)) same compiled.2 in
     let args = args_of command in
-    let program = ready.program ∙ ap program_of ready.made in
-    let core = ready.core ∙ ap (λ image. first_core image args) ready.made in
+    let program = ready.opened.program ∙ ap program_of ready.made in
+    let core = ready.opened.core ∙ ap (λ image. first_core image args) ready.made in
     let form_run = subst (λ k. ComesTo outcome (steps_of command) (program_of (form_image form)) k x y) core
     (subst (λ p. ComesTo outcome (steps_of command) p machine.core x y) program runs) in
     record {
@@ -206,8 +205,8 @@ pub ready_promise : {P : Type 0} (outcome : Outcome) (command : Command) (old ne
 ready_promise outcome command old new x y machine bound is_bound ready ran fails counts none =
     let runs = subst (λ n. ComesTo outcome n machine.program machine.core x y) is_bound ran in
     let of = of_machine outcome (steps_of command) machine.program machine.core x y runs in
-    let on_image = subst (λ k. ComesTo outcome (steps_of command) (program_of ready.image) k x y) ready.core
-    (subst (λ p. ComesTo outcome (steps_of command) p machine.core x y) ready.program runs) in
+    let on_image = subst (λ k. ComesTo outcome (steps_of command) (program_of ready.image) k x y) ready.opened.core
+    (subst (λ p. ComesTo outcome (steps_of command) p machine.core x y) ready.opened.program runs) in
     record {
       comes = inl of;
       ran = λ _. (ready.image, ready.image_kept, on_image);

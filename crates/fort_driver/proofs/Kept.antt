@@ -1,5 +1,5 @@
 -- What was fetched and kept, as the clauses of the top call say it.
-use Rattle.std.proofs.Common.{◌≡◌, ℕ, ◌<◌, ◌≤◌, List, length, Bool, false, Option, None, Some, Ok, Err, IsSomeAnd, sym, subst, replicate, suc, arith, refl, inl, inr, ◌∙◌}
+use Rattle.std.proofs.Common.{◌≡◌, ℕ, ◌<◌, ◌≤◌, List, length, false, Option, None, Some, Ok, Err, IsSomeAnd, sym, subst, replicate, suc, arith, refl, inl, inr, ◌∙◌}
 use Rattle.std.proofs.lemmas.List.{length-replicate}
 use Rattle.fc_base.specs.Answers.{Fails}
 use Rattle.fc_base.specs.Outside.{Files, IfTold, Puts, KeepsOthers, Rose}
@@ -9,7 +9,6 @@ use Rattle.fc_base.specs.declared.faults.KeepFault.{KeepFault}
 use Rattle.fc_base.specs.declared.faults.KeepFault.TheVariants as keep
 use Rattle.fc_base.specs.declared.refusals.Fault.{Fault}
 use Rattle.fc_base.specs.declared.refusals.Fault.TheVariants as refused
-use Rattle.fc_base.specs.declared.levels.Level.{Level}
 use Rattle.fc_base.specs.declared.levels.Level.TheVariants.{Three}
 use Rattle.run_meaning.specs.Objects.{StoreState}
 use Rattle.fort_forms.specs.declared.Form.{Form}

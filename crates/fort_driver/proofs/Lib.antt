@@ -1,3 +1,5 @@
 pub mod Agreement
 pub mod Answering
+pub mod Executing
 pub mod Kept
+pub mod Starting

@@ -2,16 +2,18 @@
 use Rattle.std.specs.Prelude.{◌≡◌, ◌≢◌, ℕ, ◌≤◌, ◌<◌, List, length, Option, None, Some, Result, Ok, Err, ⊤, ◌⊎◌}
 use Rattle.fc_base.specs.Outside.{Files, IfTold, Puts, KeepsOthers, Rose}
 use Rattle.run_meaning.specs.Objects.{StoreState, Streams, Outside, Offers, Failed, NoneFailed}
-use Rattle.run_meaning.specs.Runs.{Ended}
+use Rattle.run_meaning.specs.Runs.{Standing, Ended, Undefined, Going}
 use Rattle.run_meaning.specs.Worlds.{Input}
 use Rattle.run_meaning.specs.declared.streams.Stream.{Stream}
 use Rattle.run_meaning.specs.declared.streams.Stream.TheVariants.{Input as OfInput, Out as OfOut, Err as OfErr}
 use Rattle.fc_base.specs.declared.levels.End.{End}
 use Rattle.fc_base.specs.declared.refusals.Refusal.{Refusal}
 use Rattle.c_front.specs.Served.{Compiled, Compiles}
+use Rattle.bm_image.specs.declared.faults.ImageFault.{ImageFault}
 use Rattle.bm_image.specs.Images.{PlainImage}
 use Rattle.bm_image.specs.Spelling.{SpellsImage}
-use Rattle.byte_machine.specs.Opening.{first_core, program_of}
+use Rattle.bm_image.specs.Parts.{Judges, image_parts}
+use Rattle.byte_machine.specs.Opening.{first_core, program_of, machine_runs}
 use Rattle.byte_machine.specs.Machines.{Advances, FailsAfter}
 use Rattle.byte_machine.specs.State.{Core, Program}
 use Rattle.fort_words.specs.declared.Outcome.{Outcome}
@@ -45,6 +47,17 @@ IsCompiled command old compiled = (source : List ℕ) × IsFetched command old s
 
 abbrev pub IsRefused : Command → StoreState → Refusal → Type 0
 IsRefused command old refusal = (source : List ℕ) × IsFetched command old source × CompilesFor command source (Err refusal)
+
+-- they spell this image
+abbrev pub IsStored : Command → StoreState → PlainImage → Type 0
+IsStored command old image = (bytes : List ℕ) × IsFetched command old bytes × SpellsImage bytes image
+
+-- they spell none, and this is what is wrong with the first of their parts that is refused
+pub record IsNoImage (command : Command) (old : StoreState) (fault : ImageFault) : Type 0 where
+  pub bytes : List ℕ
+  pub fetched : IsFetched command old bytes
+  pub first : Judges bytes (image_parts bytes) (Some fault)
+  pub none : (image : PlainImage) → SpellsImage bytes image → ⊥
 
 -- they are too many
 abbrev pub IsTooLong : Command → StoreState → Type 0
@@ -111,9 +124,18 @@ OfCompiling (outcomes.Refused refusal) = ⊤
 OfCompiling outcomes.NoMemory = ⊤
 OfCompiling _ = ⊥
 
+-- the outcomes of an image that wasn't opened
+abbrev pub OfOpening : Outcome → Type 0
+OfOpening outcomes.StoreFault = ⊤
+OfOpening outcomes.TooLong = ⊤
+OfOpening (outcomes.ImageRefused fault) = ⊤
+OfOpening outcomes.NoMemory = ⊤
+OfOpening _ = ⊥
+
 -- the outcomes with which a command, or words that are none, touched no stream
 abbrev pub HasNotRun : Option Command → Outcome → Type 0
 HasNotRun None outcome = outcome ≡ outcomes.Usage
+HasNotRun (Some (Exec options image args)) outcome = OfOpening outcome
 HasNotRun (Some (Run options file image args)) outcome = OfCompiling outcome
 HasNotRun (Some _) outcome = ⊥
 
@@ -149,6 +171,21 @@ NotCompiled command outcomes.TooLong old new = IsTooLong command old × (new.fil
 NotCompiled command (outcomes.Refused refusal) old new = IsRefused command old refusal × (new.files ≡ old.files)
 NotCompiled command outcomes.NoMemory old new = (new.files ≡ old.files) ⊎ KeepsSome command old new
 NotCompiled command _ old new = ⊥
+
+-- no byte of the store changes, and no count of it but that of the fetch, which stays too where the store didn't fail
+pub record OnlyFetches (command : Command) (old new : StoreState) (store_failed : Type 0) : Type 0 where
+  pub files : new.files ≡ old.files
+  pub fetch_of : (name : List ℕ) → name ≢ fetched_of command → new.fetch_faults name ≡ old.fetch_faults name
+  pub no_failure : (store_failed → ⊥) → new.fetch_faults (fetched_of command) ≡ old.fetch_faults (fetched_of command)
+  pub keep_of : (name : List ℕ) → new.keep_faults name ≡ old.keep_faults name
+
+-- why an image wasn't opened
+abbrev pub NotOpened : Command → Outcome → StoreState → StoreState → Type 0
+NotOpened command outcomes.StoreFault old new = Rose (old.fetch_faults (fetched_of command)) (new.fetch_faults (fetched_of command))
+NotOpened command outcomes.TooLong old new = IsTooLong command old
+NotOpened command (outcomes.ImageRefused fault) old new = IsNoImage command old fault
+NotOpened command outcomes.NoMemory old new = ⊤
+NotOpened command _ old new = ⊥
 
 -- ---- the one answer
 
@@ -191,7 +228,46 @@ pub record RunAnswers (command : Command) (outcome : Outcome) (old new : Outside
       → NoOtherFailed command old new → EndsWithin command compiled n end old.streams
       → end_bound (weight_of (meaning_for command compiled)) n ≤ steps_of command → IsAnswer outcome (outcomes.Ran end)
 
+-- whatever the streams offer, the machine on the image stands so after as many instructions as the command allows
+abbrev pub StandsAtBound : Command → PlainImage → Standing → Streams → Type 0
+StandsAtBound command image standing old =
+    (input : Input) → Offers old input → (machine_runs image (args_of command) input (steps_of command)).1 ≡ standing
+
+-- what a run comes to that stands so at its bound
+abbrev pub outcome_at : Standing → Outcome
+outcome_at (Ended end) = outcomes.Ran end
+outcome_at (Undefined kind place) = outcomes.Undefined kind place
+outcome_at Going = outcomes.OutOfSteps
+
+-- the outcome is the refusal of an image, or want of memory
+abbrev pub IsImageRefusal : Outcome → Type 0
+IsImageRefusal outcome = (fault : ImageFault) × IsAnswer outcome (outcomes.ImageRefused fault)
+
+-- the answer of `exec` by the bytes under IMAGE. Where no stream fails, an image runs to its end or to the bound on instructions
+pub record ExecAnswers (command : Command) (outcome : Outcome) (old new : Outside) (bytes : List ℕ) : Type 0 where
+  pub too_long : longest_of command < length bytes → IsAnswer outcome outcomes.TooLong
+  pub refused : (fault : ImageFault) → length bytes ≤ longest_of command → Judges bytes (image_parts bytes) (Some fault)
+      → IsAnswer outcome (outcomes.ImageRefused fault)
+  pub none : length bytes ≤ longest_of command → ((image : PlainImage) → SpellsImage bytes image → ⊥) → IsImageRefusal outcome
+  pub runs : (image : PlainImage) → length bytes ≤ longest_of command → SpellsImage bytes image
+      → NoneFailed old.streams new.streams → OfQuietRun outcome
+  pub stands : (image : PlainImage) (standing : Standing) → length bytes ≤ longest_of command → SpellsImage bytes image
+      → NoneFailed old.streams new.streams → StandsAtBound command image standing old.streams → IsAnswer outcome (outcome_at standing)
+
 -- ---- the promise
+
+-- what `exec` promises: which outcomes come; what ran, which is the machine on the image that the bytes under IMAGE spell;
+-- else why none did; that the store keeps its bytes; that a stream's fault comes only where its count rose; and, where the
+-- store tells the bytes under IMAGE and doesn't fail to fetch them, the one answer
+pub record ExecPromise (command : Command) (outcome : Outcome) (old new : Outside) : Type 0 where
+  pub comes : OfMachine outcome ⊎ OfOpening outcome
+  pub ran : OfMachine outcome → (image : PlainImage) × IsStored command old.store image × Ran command outcome image old.streams new.streams
+  pub not_run : OfOpening outcome → NotOpened command outcome old.store new.store
+  pub store : OnlyFetches command old.store new.store (outcome ≡ outcomes.StoreFault)
+  pub failed : (which : Stream) → outcome ≡ fault_outcome which → Failed which old.streams new.streams
+  pub answers : (bytes : List ℕ) (files : Files) → old.store.files ≡ Some files → files (fetched_of command) ≡ Some bytes
+      → StoodStill (old.store.fetch_faults (fetched_of command)) (new.store.fetch_faults (fetched_of command))
+      → ExecAnswers command outcome old new bytes
 
 -- what `run` promises: which outcomes come; what was kept and what ran; else why not, and what is left; which counts
 -- change; that a stream's fault comes only where its count rose; and, where the store tells the bytes under FILE and doesn't
@@ -212,7 +288,7 @@ pub record RunPromise (command : Command) (outcome : Outcome) (old new : Outside
 abbrev pub Promise : Option Command → Outcome → Outside → Outside → Type 0
 Promise None outcome old new = (outcome ≡ outcomes.Usage) × (new ≡ old)
 Promise (Some (Build options file image)) outcome old new = ⊥
-Promise (Some (Exec options image args)) outcome old new = ⊥
+Promise (Some (Exec options image args)) outcome old new = ExecPromise (Exec options image args) outcome old new
 Promise (Some (Run options file image args)) outcome old new = RunPromise (Run options file image args) outcome old new
 Promise (Some (Sites file)) outcome old new = ⊥
 Promise (Some (Mean options file args)) outcome old new = ⊥

@@ -1,10 +1,13 @@
--- The command of some words is the one whose words they are, and the one that is served of those.
-use Rattle.std.proofs.Common.{◌≡◌, ◌≢◌, ℕ, ◌<◌, ◌≤◌, ◌^◌, ◌&&◌, Bool, true, false, not, nat_le, cond, IsTrue, is_none, List, [], ◌∷◌, ◌++◌, length, slice_get, append_assoc, Option, None, Some, codes, decimal, refl, sym, ◌∙◌, ap, subst, arith}
+-- The command of some words is the one whose words they are; and how the code reads it, where it is served.
+use Rattle.std.proofs.Common.{◌≡◌, ◌≢◌, ℕ, ◌<◌, ◌≤◌, ◌^◌, ◌+◌, ◌&&◌, Bool, true, false, not, nat_le, cond, IsTrue, is_none, List, [], ◌∷◌, ◌++◌, length, drop, slice_get, append_assoc, Option, None, Some, unwrap_or, ◌⊎◌, inl, inr, codes, decimal, refl, sym, ◌∙◌, ap, subst, arith}
 use Rattle.std.specs.Bool.{⊤}
 use Rattle.std.specs.Option.{option_map}
 use Rattle.std.specs.Str.{bytes_eq}
 use Rattle.std.specs.Str.Parse.{digits_value}
 use Rattle.std.proofs.lemmas.Bool.{and_parts, and_from, leb-true, le-leb, false_from_ne_true, not_from_false, not-true}
+use Rattle.std.proofs.lemmas.List.{drop_more}
+use Rattle.std.proofs.lemmas.List.Sums.{sum_by-cons}
+use Rattle.std.proofs.lemmas.Option.{slice_get_within, unwrap_or-slice_get}
 use Rattle.std.proofs.lemmas.Fmt.{digits_decimal, digits_value-decimal}
 use Rattle.std.proofs.lemmas.Slice.Eq.{bytes_eq-Decides}
 use Rattle.std.proofs.lemmas.Str.Parse.{IsNumeralModel}
@@ -12,7 +15,7 @@ use Rattle.std.specs.Str.Parse.{AllDigits}
 use Rattle.fc_base.specs.declared.levels.Level.{Level}
 use Rattle.fc_base.specs.declared.levels.Level.TheVariants as levels
 use Rattle.run_meaning.specs.Worlds.{arguments_size, most_arguments}
-use Rattle.fort_words.specs.Commands.{Options, no_options, Command, Build, Exec, Run, Sites, Mean, Gen, level_words, sizes_words, steps_words, options_words, args_words, run_words, words_of, is_name, most_steps, last_source, StepsFit, ArgsFit, StepsAlone, IsCommand, Means, number_of, level_of_word, optional, option_read, flag_read, level_read, sizes_read, steps_read, options_read, steps_alone, name_read, names_read, args_read, end_read, number_read, build_read, exec_read, run_read, sites_read, mean_read, gen_read, command_of, CommandIsItsWords, run_of, is_plain, if_built, served}
+use Rattle.fort_words.specs.Commands.{Options, Command, Build, Exec, Run, Sites, Mean, Gen, level_words, sizes_words, steps_words, options_words, args_words, run_words, words_of, is_name, most_steps, last_source, StepsFit, ArgsFit, StepsAlone, IsCommand, Means, number_of, level_of_word, optional, option_read, flag_read, level_read, sizes_read, steps_read, options_read, steps_alone, name_read, names_read, args_read, end_read, number_read, build_read, exec_read, run_read, sites_read, mean_read, gen_read, command_of, CommandIsItsWords, is_built, if_built, served, only_steps}
 
 -- ---- words and names
 
@@ -425,39 +428,270 @@ is_its_words words command =
 
 -- ---- the command that is served
 
-pub served_run : (words : List (List ℕ)) (file image : List ℕ) → Means words (run_of file image) → served words ≡ Some (run_of file image)
-served_run words file image means = ap if_built ((is_its_words words (run_of file image)).1 means)
+-- the options that the words begin with are a bound on steps alone
+abbrev StepsOnly : List (List ℕ) → Type 0
+StepsOnly words = options_read words ≡ (only_steps (steps_read words).0, (steps_read words).1)
 
--- options that are plain are none
-plain_is : (options : Options) → is_plain options ≡ true → options ≡ no_options
-plain_is options test = go options.level options.sizes options.steps test where
-  go : (level : Option Level) (sizes : Bool) (steps : Option ℕ) → (is_none level && (not sizes && is_none steps)) ≡ true
-      → ◌≡◌ {A = Options} (record { level = level; sizes = sizes; steps = steps }) no_options
-  go None false None test = refl
-  go (Some level) sizes steps test = absurd (cc)
-  go None true steps test = absurd (cc)
-  go None false (Some n) test = absurd (cc)
+-- another option stands there, which is no bound on steps and no name
+record OtherOption (words : List (List ℕ)) : Type 0 where
+  pub other : steps_alone (options_read words).0 ≡ false
+  pub no_steps : steps_read words ≡ (None, words)
+  pub word : List ℕ
+  pub rest : List (List ℕ)
+  pub stands : words ≡ word ∷ rest
+  pub no_name : is_name word ≡ false
 
-pub served_none : (words : List (List ℕ)) → ((file image : List ℕ) → Means words (run_of file image) → ⊥) → served words ≡ None
-served_none words other = go (command_of words) refl where
-  go : (o : Option Command) → command_of words ≡ o → if_built o ≡ None
+no_steps_behind : (word : List ℕ) (rest : List (List ℕ)) → bytes_eq word (codes "--steps") ≡ false → steps_read (word ∷ rest) ≡ (None, word ∷ rest)
+no_steps_behind word [] other = refl
+no_steps_behind word (value ∷ rest) other = rw other refl
+
+by_options : (words : List (List ℕ)) → StepsOnly words ⊎ OtherOption words
+by_options words = by_level (level_read words).0 refl where
+  by_sizes : (t : Bool) → (sizes_read (level_read words).1).0 ≡ t → (level_read words).0 ≡ None → words ≡ (level_read words).1 → StepsOnly words ⊎ OtherOption words
+  by_sizes true is none same =
+      let rest = (sizes_read (level_read words).1).1 in
+      let stands : words ≡ codes "--sizes" ∷ rest = same ∙ (sizes_sound (level_read words).1 ∙ ap (λ t. sizes_words t ++ rest) is) in
+      inr (record {
+        other = ap (λ t. is_none (level_read words).0 && not t) is ∙ ap (λ o. is_none o && false) none;
+        no_steps = subst (λ w. steps_read w ≡ (None, w)) (sym stands) (no_steps_behind (codes "--sizes") rest refl);
+        word = codes "--sizes";
+        rest = rest;
+        stands = stands;
+        no_name = refl;
+      })
+  by_sizes false is none same =
+      let sizes = sizes_read (level_read words).1 in
+      let rest : sizes.1 ≡ words = sym (same ∙ (sizes_sound (level_read words).1 ∙ ap (λ t. sizes_words t ++ sizes.1) is)) in
+      inl (ap (λ l. given l sizes.0 (steps_read sizes.1)) none ∙ (ap (λ z. given None z (steps_read sizes.1)) is ∙ ap (λ w. given None false (steps_read w)) rest))
+
+  by_level : (o : Option Level) → (level_read words).0 ≡ o → StepsOnly words ⊎ OtherOption words
+  by_level None is = by_sizes (sizes_read (level_read words).1).0 refl is (level_sound words ∙ ap (λ o. level_words o ++ (level_read words).1) is)
+  by_level (Some level) is =
+      let rest = level_spelled level ∷ (level_read words).1 in
+      let stands : words ≡ codes "--level" ∷ rest =
+      level_sound words ∙ (ap (λ o. level_words o ++ (level_read words).1) is ∙ ap (λ w. w ++ (level_read words).1) (sym (level_as (Some level)))) in
+      inr (record {
+        other = ap (λ o. is_none o && not (options_read words).0.sizes) is;
+        no_steps = subst (λ w. steps_read w ≡ (None, w)) (sym stands) (no_steps_behind (codes "--level") rest refl);
+        word = codes "--level";
+        rest = rest;
+        stands = stands;
+        no_name = refl;
+      })
+
+-- a command is kept or not by one test, wherever it is read
+either_way : (t : Bool) (o : Option Command) → o ≡ cond t o o
+either_way true o = refl
+either_way false o = refl
+
+built_args : (made : Option (List (List ℕ)) → Command) (t : Bool) → ((args : Option (List (List ℕ))) → is_built (made args) ≡ t) → (words : List (List ℕ))
+    → if_built (args_read made words) ≡ cond t (args_read made words) None
+built_args made t is [] = ap (λ b. cond b (Some (made None)) None) (is None)
+built_args made t is (word ∷ args) = go (bytes_eq word (codes "--") && nat_le (arguments_size args) most_arguments) where
+  go : (b : Bool) → if_built (cond b (Some (made (Some args))) None) ≡ cond t (cond b (Some (made (Some args))) None) None
+  go false = either_way t None
+  go true = ap (λ b. cond b (Some (made (Some args))) None) (is (Some args))
+
+built_name : (next : List ℕ → List (List ℕ) → Option Command) (t : Bool) → ((name : List ℕ) (rest : List (List ℕ)) → if_built (next name rest) ≡ cond t (next name rest) None)
+    → (words : List (List ℕ)) → if_built (name_read next words) ≡ cond t (name_read next words) None
+built_name next t is [] = either_way t None
+built_name next t is (name ∷ rest) = go (is_name name) where
+  go : (b : Bool) → if_built (cond b (next name rest) None) ≡ cond t (cond b (next name rest) None) None
+  go false = either_way t None
+  go true = is name rest
+
+built_names : (next : List ℕ → List ℕ → List (List ℕ) → Option Command) (t : Bool)
+    → ((file image : List ℕ) (rest : List (List ℕ)) → if_built (next file image rest) ≡ cond t (next file image rest) None)
+    → (words : List (List ℕ)) → if_built (names_read next words) ≡ cond t (names_read next words) None
+built_names next t is [] = either_way t None
+built_names next t is (file ∷ []) = either_way t None
+built_names next t is (file ∷ image ∷ rest) = go (is_name file && (is_name image && not (bytes_eq file image))) where
+  go : (b : Bool) → if_built (cond b (next file image rest) None) ≡ cond t (cond b (next file image rest) None) None
+  go false = either_way t None
+  go true = is file image rest
+
+-- `exec` and `run` as they are read with a bound on steps alone
+abbrev exec_behind : Option ℕ → List (List ℕ) → Option Command
+exec_behind steps rest = name_read (λ image. args_read (Exec (only_steps steps) image)) rest
+
+abbrev run_behind : Option ℕ → List (List ℕ) → Option Command
+run_behind steps rest = names_read (λ file image. args_read (Run (only_steps steps) file image)) rest
+
+exec_by_steps : (words : List (List ℕ)) → if_built (exec_read words) ≡ exec_behind (steps_read words).0 (steps_read words).1
+exec_by_steps words = go (by_options words) where
+  go : StepsOnly words ⊎ OtherOption words → if_built (exec_read words) ≡ exec_behind (steps_read words).0 (steps_read words).1
+  go (inl only) =
+      let steps = (steps_read words).0 in
+      ap (λ o. if_built (cond (steps_alone o.0) (name_read (λ image. args_read (Exec o.0 image)) o.1) None)) only
+      ∙ built_name (λ image. args_read (Exec (only_steps steps) image)) true (λ image. built_args (Exec (only_steps steps) image) true (λ args. refl)) (steps_read words).1
+  go (inr o) =
+      ap (λ t. if_built (cond t (name_read (λ image. args_read (Exec (options_read words).0 image)) (options_read words).1) None)) o.other
+      ∙ sym (ap (λ s. exec_behind s.0 s.1) o.no_steps ∙ (ap (exec_behind None) o.stands ∙ ap (λ t. cond t (args_read (Exec (only_steps None) o.word) o.rest) None) o.no_name))
+
+run_by_steps : (words : List (List ℕ)) → if_built (run_read words) ≡ run_behind (steps_read words).0 (steps_read words).1
+run_by_steps words = go (by_options words) where
+  unnamed : (next : List ℕ → List ℕ → List (List ℕ) → Option Command) (word : List ℕ) (rest : List (List ℕ)) → is_name word ≡ false → names_read next (word ∷ rest) ≡ None
+  unnamed next word [] test = refl
+  unnamed next word (image ∷ rest) test = rw test refl
+
+  go : StepsOnly words ⊎ OtherOption words → if_built (run_read words) ≡ run_behind (steps_read words).0 (steps_read words).1
+  go (inl only) =
+      let steps = (steps_read words).0 in
+      ap (λ o. if_built (names_read (λ file image. args_read (Run o.0 file image)) o.1)) only
+      ∙ built_names (λ file image. args_read (Run (only_steps steps) file image)) true
+      (λ file image. built_args (Run (only_steps steps) file image) true (λ args. refl)) (steps_read words).1
+  go (inr o) =
+      let options = (options_read words).0 in
+      built_names (λ file image. args_read (Run options file image)) false
+      (λ file image. built_args (Run options file image) false (λ args. o.other)) (options_read words).1
+      ∙ sym (ap (λ s. run_behind s.0 s.1) o.no_steps ∙ (ap (run_behind None) o.stands ∙ unnamed (λ file image. args_read (Run (only_steps None) file image)) o.word o.rest o.no_name))
+
+-- what stands behind the bound, as the code finds it
+pub exec_named : (words rest more : List (List ℕ)) (steps : Option ℕ) (image : List ℕ) → steps ≡ (steps_read words).0 → rest ≡ (steps_read words).1
+    → is_name image ≡ true → rest ≡ image ∷ more → args_read (Exec (only_steps steps) image) more ≡ if_built (exec_read words)
+exec_named words rest more steps image same behind named stands =
+    sym (exec_by_steps words ∙ (ap (λ s. exec_behind s (steps_read words).1) (sym same) ∙ (ap (exec_behind steps) (sym behind ∙ stands)
+    ∙ ap (λ t. cond t (args_read (Exec (only_steps steps) image) more) None) named)))
+
+pub exec_unnamed : (words rest : List (List ℕ)) → rest ≡ (steps_read words).1 → ((next : List ℕ → List (List ℕ) → Option Command) → name_read next rest ≡ None)
+    → None ≡ if_built (exec_read words)
+exec_unnamed words rest behind none = sym (exec_by_steps words ∙ (ap (exec_behind (steps_read words).0) (sym behind) ∙ none _))
+
+pub run_named : (words rest more : List (List ℕ)) (steps : Option ℕ) (file image : List ℕ) → steps ≡ (steps_read words).0 → rest ≡ (steps_read words).1
+    → ((next : List ℕ → List ℕ → List (List ℕ) → Option Command) → names_read next rest ≡ next file image more)
+    → args_read (Run (only_steps steps) file image) more ≡ if_built (run_read words)
+run_named words rest more steps file image same behind named =
+    sym (run_by_steps words ∙ (ap (λ s. run_behind s (steps_read words).1) (sym same) ∙ (ap (run_behind steps) (sym behind) ∙ named _)))
+
+pub run_unnamed : (words rest : List (List ℕ)) → rest ≡ (steps_read words).1 → ((next : List ℕ → List ℕ → List (List ℕ) → Option Command) → names_read next rest ≡ None)
+    → None ≡ if_built (run_read words)
+run_unnamed words rest behind none = sym (run_by_steps words ∙ (ap (run_behind (steps_read words).0) (sym behind) ∙ none _))
+
+-- no command of another verb is built
+pub other_verb : (verb : List ℕ) (rest : List (List ℕ)) → verb ≢ codes "exec" → verb ≢ codes "run" → served (verb ∷ rest) ≡ None
+other_verb verb rest no_exec no_run = go (command_of (verb ∷ rest)) refl where
+  first : {a b : List ℕ} {xs ys : List (List ℕ)} → a ∷ xs ≡ b ∷ ys → a ≡ b
+  first same = cc
+
+  go : (o : Option Command) → command_of (verb ∷ rest) ≡ o → if_built o ≡ None
   go None is = refl
-  go (Some (Run options file image None)) is = plain (is_plain options) refl where
-    plain : (t : Bool) → is_plain options ≡ t → if_built (Some (Run options file image None)) ≡ None
-    plain false test = rw test refl
-    plain true test = absurd (other file image ((is_its_words words (run_of file image)).0 (is ∙ ap (λ o. Some (Run o file image None)) (plain_is options test))))
+  go (Some (Exec options image args)) is = let means = sound (verb ∷ rest) _ is in absurd (no_exec (first means.spelled))
+  go (Some (Run options file image args)) is = let means = sound (verb ∷ rest) _ is in absurd (no_run (first means.spelled))
   go (Some _) is = refl
 
--- the three words that the code looks at are all
-three_words : (words : List (List ℕ)) (verb file image : List ℕ) → length words ≡ 3 → slice_get words 0 ≡ Some verb
-    → slice_get words 1 ≡ Some file → slice_get words 2 ≡ Some image → words ≡ verb ∷ file ∷ image ∷ []
-three_words [] verb file image size first second third = cc
-three_words (x ∷ []) verb file image size first second third = absurd (omega arith)
-three_words (x ∷ y ∷ []) verb file image size first second third = absurd (omega arith)
-three_words (x ∷ y ∷ z ∷ []) verb file image size first second third = cc
-three_words (x ∷ y ∷ z ∷ w ∷ ws) verb file image size first second third = absurd (omega arith)
+-- ---- the words, as the code looks at them
 
-pub run_means : (words : List (List ℕ)) (verb file image : List ℕ) → length words ≡ 3 → slice_get words 0 ≡ Some verb → slice_get words 1 ≡ Some file
-    → slice_get words 2 ≡ Some image → verb ≡ codes "run" → is_name file ≡ true → is_name image ≡ true → file ≢ image → Means words (run_of file image)
-run_means words verb file image size first second third run named image_named other =
-    record { kept = (tt, named, image_named, other, tt); spelled = three_words words verb file image size first second third ∙ ap (λ v. v ∷ file ∷ image ∷ []) run }
+-- one word more counts its room
+pub room_more : (words : List (List ℕ)) (at : ℕ) (word : List ℕ) → drop at words ≡ word ∷ drop (at + 1) words
+    → arguments_size (drop at words) ≡ (length word + 32) + arguments_size (drop (at + 1) words)
+room_more words at word stands = ap arguments_size stands ∙ sum_by-cons (λ w. length w + 32) word (drop (at + 1) words)
+
+-- the word at a place stands before those behind it
+pub at_place : (words : List (List ℕ)) (at : ℕ) (word : List ℕ) → slice_get words at ≡ Some word → drop at words ≡ word ∷ drop (at + 1) words
+at_place words at word is =
+    drop_more words at word (slice_get_within words at word is)
+    ∙ ap (λ w. w ∷ drop (at + 1) words) (sym (unwrap_or-slice_get words at word) ∙ ap (λ o. unwrap_or o word) is)
+
+-- what a test of two texts says
+pub texts_are : (a b : List ℕ) (t : Bool) → t ≡ not (bytes_eq a b) → t ≡ false → a ≡ b
+texts_are a b t is test = go (bytes_eq a b) refl where
+  go : (u : Bool) → bytes_eq a b ≡ u → a ≡ b
+  go true u = same a b u
+  go false u = absurd (cc)
+
+pub texts_differ : (a b : List ℕ) (t : Bool) → t ≡ not (bytes_eq a b) → t ≡ true → a ≢ b
+texts_differ a b t is test e = let u = equal_of a b e in absurd (cc) where
+  equal_of : (a b : List ℕ) → a ≡ b → bytes_eq a b ≡ true
+  equal_of a b = (bytes_eq-Decides a b).1
+
+-- a number is read where its digits stand there, and only there
+pub number_none : (low high : ℕ) (word : List ℕ) → ((n : ℕ) → low ≤ n → n ≤ high → word ≡ decimal n → ⊥) → None ≡ number_of low high word
+number_none low high word other = go (number_of low high word) refl where
+  go : (o : Option ℕ) → number_of low high word ≡ o → None ≡ o
+  go None is = refl
+  go (Some n) is = let found = number_sound low high word n is in absurd (other n found.1 found.2 found.0)
+
+pub number_some : (low high n : ℕ) (word : List ℕ) → n < 2 ^ 64 → word ≡ decimal n → low ≤ n → n ≤ high → Some n ≡ number_of low high word
+number_some low high n word small is least most = sym (ap (number_of low high) is ∙ number_there low high n small least most)
+
+-- a bound on steps, at its place
+pub no_steps_here : (words : List (List ℕ)) → words ≡ [] → None ≡ (steps_read words).0
+no_steps_here words is = ap (λ w. (steps_read w).0) (sym is)
+
+pub other_here : (words rest : List (List ℕ)) (word : List ℕ) → words ≡ word ∷ rest → word ≢ codes "--steps" → None ≡ (steps_read words).0
+other_here words rest word is other = sym (ap (λ w. (steps_read w).0) is ∙ ap (λ s. s.0) (no_steps_behind word rest (differ word (codes "--steps") other)))
+
+pub steps_alone_here : (words rest : List (List ℕ)) (word : List ℕ) → words ≡ word ∷ rest → word ≡ codes "--steps" → rest ≡ [] → None ≡ (steps_read words).0
+steps_alone_here words rest word is named last = rw (is, named, last) refl
+
+pub steps_here : (words rest behind : List (List ℕ)) (word value : List ℕ) → words ≡ word ∷ rest → word ≡ codes "--steps" → rest ≡ value ∷ behind
+    → number_of 1 most_steps value ≡ (steps_read words).0
+steps_here words rest behind word value is named stands = rw (is, named, stands) (go (number_of 1 most_steps value)) where
+  go : (o : Option ℕ) → o ≡ (optional (codes "--steps" ∷ value ∷ behind) behind o).0
+  go None = refl
+  go (Some n) = refl
+
+-- what is left behind it
+pub steps_left : (words : List (List ℕ)) (n : ℕ) → Some n ≡ (steps_read words).0 → drop 2 words ≡ (steps_read words).1
+steps_left words n is = rw (ap (drop 2) (steps_sound words)) (rw (← is) refl)
+
+pub nothing_left_out : (words : List (List ℕ)) → None ≡ (steps_read words).0 → words ≡ (steps_read words).1
+nothing_left_out words is = steps_sound words ∙ ap (λ o. steps_words o ++ (steps_read words).1) (sym is)
+
+-- a name at its place, and two
+pub name_here : (words rest : List (List ℕ)) (word : List ℕ) → words ≡ word ∷ rest → false ≡ is_name word
+    → (next : List ℕ → List (List ℕ) → Option Command) → name_read next words ≡ None
+name_here words rest word is test next = ap (name_read next) is ∙ ap (λ t. cond t (next word rest) None) (sym test)
+
+pub names_here : (words : List (List ℕ)) → ((next : List ℕ → List (List ℕ) → Option Command) → name_read next words ≡ None)
+    → (next : List ℕ → List ℕ → List (List ℕ) → Option Command) → names_read next words ≡ None
+names_here [] none next = refl
+names_here (file ∷ []) none next = refl
+names_here (file ∷ image ∷ rest) none next = go (is_name file) (none (λ name more. Some (Sites name))) where
+  go : (t : Bool) → cond t (Some (Sites file)) None ≡ None → cond (t && (is_name image && not (bytes_eq file image))) (next file image rest) None ≡ None
+  go true e = absurd (cc)
+  go false e = refl
+
+pub second_here : (words more : List (List ℕ)) (file : List ℕ) → words ≡ file ∷ more → ((next : List ℕ → List (List ℕ) → Option Command) → name_read next more ≡ None)
+    → (next : List ℕ → List ℕ → List (List ℕ) → Option Command) → names_read next words ≡ None
+second_here words more file is none next = ap (names_read next) is ∙ second more none where
+  second : (more : List (List ℕ)) → ((next : List ℕ → List (List ℕ) → Option Command) → name_read next more ≡ None) → names_read next (file ∷ more) ≡ None
+  second [] none = refl
+  second (image ∷ rest) none = go (is_name image) (is_name file) (none (λ name more. Some (Sites name))) where
+    go : (t u : Bool) → cond t (Some (Sites image)) None ≡ None → cond (u && (t && not (bytes_eq file image))) (next file image rest) None ≡ None
+    go true u e = absurd (cc)
+    go false true e = refl
+    go false false e = refl
+
+pub same_names : (words more rest : List (List ℕ)) (file image : List ℕ) → words ≡ file ∷ more → more ≡ image ∷ rest → file ≡ image
+    → (next : List ℕ → List ℕ → List (List ℕ) → Option Command) → names_read next words ≡ None
+same_names words more rest file image is then same next =
+    ap (names_read next) (is ∙ ap (λ m. file ∷ m) then)
+    ∙ go (is_name file) (is_name image) (bytes_eq file image) ((bytes_eq-Decides file image).1 same) where
+      go : (t u v : Bool) → v ≡ true → cond (t && (u && not v)) (next file image rest) None ≡ None
+      go true true true e = refl
+      go false u v e = refl
+      go true false v e = refl
+      go true true false e = absurd (cc)
+
+pub two_names : (words more rest : List (List ℕ)) (file image : List ℕ) → words ≡ file ∷ more → more ≡ image ∷ rest → IsTrue (is_name file) → IsTrue (is_name image)
+    → file ≢ image → (next : List ℕ → List ℕ → List (List ℕ) → Option Command) → names_read next words ≡ next file image rest
+two_names words more rest file image is then one two other next =
+    ap (names_read next) (is ∙ ap (λ m. file ∷ m) then) ∙ names_there next file image rest one two other
+
+-- arguments at their place
+pub args_here : (words rest : List (List ℕ)) (word : List ℕ) (made : Option (List (List ℕ)) → Command) → words ≡ word ∷ rest → word ≡ codes "--"
+    → true ≡ nat_le (arguments_size rest) most_arguments → args_read made words ≡ Some (made (Some rest))
+args_here words rest word made is named fit = rw (is, named, ← fit) refl
+
+pub args_over : (words rest : List (List ℕ)) (word : List ℕ) (made : Option (List (List ℕ)) → Command) → words ≡ word ∷ rest
+    → false ≡ nat_le (arguments_size rest) most_arguments → args_read made words ≡ None
+args_over words rest word made is over = ap (args_read made) is ∙ go (bytes_eq word (codes "--")) (nat_le (arguments_size rest) most_arguments) (sym over) where
+  go : (t u : Bool) → u ≡ false → cond (t && u) (Some (made (Some rest))) None ≡ None
+  go true true e = absurd (cc)
+  go true false e = refl
+  go false u e = refl
+
+pub no_args_here : (words rest : List (List ℕ)) (word : List ℕ) (made : Option (List (List ℕ)) → Command) → words ≡ word ∷ rest → word ≢ codes "--"
+    → args_read made words ≡ None
+no_args_here words rest word made is other = rw (is, differ word (codes "--") other) refl

@@ -1,12 +1,15 @@
 -- The forms of the command line: the command that the words behind the program's name are. This project's own.
 use Rattle.std.specs.Prelude.{◌≡◌, ◌≢◌, ◌↔◌, ℕ, ◌≤◌, ◌==◌, List, [], ◌∷◌, ◌++◌, Bool, true, false, not, ◌&&◌, nat_le, cond, is_none, IsTrue}
-use Rattle.std.specs.Prelude.{Option, None, Some, unwrap_or, ⊤, codes, decimal}
+use Rattle.std.specs.Prelude.{Option, None, Some, unwrap_or, ⊤, drop, codes, decimal}
 use Rattle.std.specs.Option.{option_map}
 use Rattle.std.specs.Str.{bytes_eq}
 use Rattle.std.specs.Str.Parse.{digits_value}
 use Rattle.fc_base.specs.declared.levels.Level.{Level}
 use Rattle.fc_base.specs.declared.levels.Level.TheVariants as levels
 use Rattle.run_meaning.specs.Worlds.{ArgumentsFit, arguments_size, most_arguments}
+use Rattle.fort_words.specs.declared.commands.Arguments.{Arguments}
+use Rattle.fort_words.specs.declared.commands.ExecCommand.{ExecCommand}
+use Rattle.fort_words.specs.declared.commands.RunCommand.{RunCommand}
 use Rattle.fort_words.specs.declared.commands.Command.{Command as Given}
 use Rattle.fort_words.specs.declared.commands.Command.TheVariants as given
 
@@ -310,16 +313,10 @@ longest_of (Gen run number) = 0
 
 -- ---- the commands that are built so far
 
--- `run FILE IMAGE` alone
-abbrev pub run_of : List ℕ → List ℕ → Command
-run_of file image = Run no_options file image None
-
--- no option is written
-abbrev pub is_plain : Options → Bool
-is_plain options = is_none options.level && (not options.sizes && is_none options.steps)
-
+-- `exec` whole, and `run` with a bound on steps and arguments
 abbrev pub is_built : Command → Bool
-is_built (Run options file image None) = is_plain options
+is_built (Exec options image args) = true
+is_built (Run options file image args) = steps_alone options
 is_built _ = false
 
 abbrev pub if_built : Option Command → Option Command
@@ -330,6 +327,23 @@ if_built (Some command) = cond (is_built command) (Some command) None
 abbrev pub served : List (List ℕ) → Option Command
 served words = if_built (command_of words)
 
--- a command that the code has read
+-- ---- a command that the code has read
+
+-- options of which the bound on steps alone may be written
+abbrev pub only_steps : Option ℕ → Options
+only_steps steps = record { level = None; sizes = false; steps = steps }
+
+-- the words from a place on
+abbrev pub plain_args : Option Arguments → Option (List (List ℕ))
+plain_args None = None
+plain_args (Some args) = Some (drop args.first args.words.now)
+
+abbrev pub plain_exec : ExecCommand → Command
+plain_exec exec = Exec (only_steps exec.steps) exec.image.now (plain_args exec.args)
+
+abbrev pub plain_run : RunCommand → Command
+plain_run run = Run (only_steps run.steps) run.file.now run.image.now (plain_args run.args)
+
 abbrev pub plain_command : Given → Command
-plain_command (given.Run file image) = run_of file.now image.now
+plain_command (given.Exec exec) = plain_exec exec
+plain_command (given.Run run) = plain_run run

@@ -10,6 +10,10 @@ use Rattle.fc_base.specs.declared.faults.KeepFault.TheVariants as keep
 use Rattle.fc_base.specs.declared.refusals.Fault.{Fault}
 use Rattle.fc_base.specs.declared.refusals.Fault.TheVariants as fault
 use Rattle.fc_base.specs.declared.refusals.Place.{Place}
+use Rattle.bm_image.specs.declared.faults.ImageKind.{ImageKind}
+use Rattle.bm_image.specs.declared.faults.ImageKind.TheVariants as kinds
+use Rattle.bm_image.specs.declared.faults.ReadFault.{ReadFault}
+use Rattle.bm_image.specs.declared.faults.ReadFault.TheVariants as read
 use Rattle.fort_words.specs.declared.outcomes.Outcome.{Outcome}
 use Rattle.fort_words.specs.declared.outcomes.Outcome.TheVariants as outcomes
 
@@ -32,6 +36,7 @@ status_of outcomes.OutFault = 119
 status_of outcomes.ErrFault = 120
 status_of outcomes.TooLong = 121
 status_of (outcomes.Refused refusal) = 122
+status_of (outcomes.ImageRefused fault) = 123
 status_of outcomes.OutOfSteps = 124
 status_of outcomes.NoMemory = 125
 status_of (outcomes.Undefined kind place) = 126
@@ -44,6 +49,16 @@ fault_line_of text = codes "fortc: " ++ (text ++ 10 ∷ [])
 abbrev pub place_text : Place → List ℕ
 place_text place = decimal place.line ++ (codes ":" ++ decimal place.col)
 
+-- what is wrong with a part of an image
+abbrev pub image_kind_text : ImageKind → List ℕ
+image_kind_text kinds.Short = codes "short"
+image_kind_text kinds.Magic = codes "magic"
+image_kind_text kinds.Version = codes "version"
+image_kind_text kinds.Count = codes "count"
+image_kind_text kinds.Function = codes "function"
+image_kind_text kinds.Instruction = codes "instruction"
+image_kind_text kinds.Extra = codes "extra"
+
 -- what the outcome prints on standard error
 abbrev pub fault_text : Outcome → List ℕ
 fault_text outcomes.Done = []
@@ -55,6 +70,8 @@ fault_text outcomes.OutFault = fault_line_of (codes "output fault")
 fault_text outcomes.ErrFault = fault_line_of (codes "error output fault")
 fault_text outcomes.TooLong = fault_line_of (codes "too long")
 fault_text (outcomes.Refused refusal) = fault_line_of (place_text refusal.place ++ (codes ": refused: " ++ rule_name refusal.rule))
+fault_text (outcomes.ImageRefused fault) =
+    fault_line_of (codes "image refused: " ++ (image_kind_text fault.kind ++ (codes " at " ++ decimal fault.offset)))
 fault_text outcomes.OutOfSteps = fault_line_of (codes "out of steps")
 fault_text outcomes.NoMemory = fault_line_of (codes "no memory")
 fault_text (outcomes.Undefined kind place) = fault_line_of (codes "undefined " ++ (kind_name kind ++ (codes " at " ++ place_text place)))
@@ -73,3 +90,7 @@ after_keep keep.NoMemory = outcomes.NoMemory
 abbrev pub after_fault : Fault → Outcome
 after_fault (fault.Refused refusal) = outcomes.Refused refusal
 after_fault fault.NoMemory = outcomes.NoMemory
+
+abbrev pub after_read : ReadFault → Outcome
+after_read (read.Refused fault) = outcomes.ImageRefused fault
+after_read read.NoMemory = outcomes.NoMemory

@@ -3,6 +3,10 @@
 
 mod commands;
 mod outcomes;
+mod parts;
 
-pub use commands::{Command, command_is_its_words, read_command};
+pub use commands::{
+    Arguments, Command, ExecCommand, RunCommand, argument_list, command_is_its_words, read_command,
+    steps_or_default,
+};
 pub use outcomes::{Outcome, fault_line, status};

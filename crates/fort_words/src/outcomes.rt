@@ -1,9 +1,10 @@
 //! What a command comes to.
 
 ghost use Rattle.std.specs.Prelude.{◌≡◌, IfOk};
-ghost use Rattle.fort_words.specs.Outcomes.{end_status, status_of, fault_text, after_fetch, after_keep, after_fault};
+ghost use Rattle.fort_words.specs.Outcomes.{end_status, status_of, fault_text, image_kind_text, after_fetch, after_keep, after_fault, after_read};
 ghost use Rattle.fort_words.specs.declared.outcomes.Outcome.TheVariants.{NoMemory as MemoryOutcome};
 
+use bm_image::{ImageFault, ImageKind, ReadFault};
 use fc_base::{End, Fault, FetchFault, KeepFault, NoMemory, Place, Refusal, Text, UndefKind};
 use std::alloc::{AllocError, Global};
 
@@ -19,6 +20,7 @@ pub enum Outcome {
     ErrFault,
     TooLong,
     Refused(Refusal),
+    ImageRefused(ImageFault),
     OutOfSteps,
     Undefined { kind: UndefKind, place: Place },
     NoMemory,
@@ -54,6 +56,17 @@ impl From<Fault> for Outcome {
         match fault {
             Fault::Refused(refusal) => Outcome::Refused(refusal),
             Fault::NoMemory => Outcome::NoMemory,
+        }
+    }
+}
+
+impl From<ReadFault> for Outcome {
+    ghost from_gives = { λ fault outcome. outcome ≡ after_read fault };
+
+    fn from(fault: ReadFault) -> Outcome {
+        match fault {
+            ReadFault::Refused(fault) => Outcome::ImageRefused(fault),
+            ReadFault::NoMemory => Outcome::NoMemory,
         }
     }
 }
@@ -99,6 +112,7 @@ pub fn status(outcome: &Outcome) -> u8
         Outcome::ErrFault => 120,
         Outcome::TooLong => 121,
         Outcome::Refused(_) => 122,
+        Outcome::ImageRefused(_) => 123,
         Outcome::OutOfSteps => 124,
         Outcome::NoMemory => 125,
         Outcome::Undefined { .. } => 126,
@@ -119,6 +133,7 @@ pub fn fault_line(alloc: Global, outcome: &Outcome) -> Result<Text, NoMemory>
         Outcome::ErrFault => "fortc: error output fault\n",
         Outcome::TooLong => "fortc: too long\n",
         Outcome::Refused(refusal) => return refusal_line(alloc, refusal),
+        Outcome::ImageRefused(fault) => return image_line(alloc, fault),
         Outcome::OutOfSteps => "fortc: out of steps\n",
         Outcome::NoMemory => "fortc: no memory\n",
         Outcome::Undefined { kind, place } => return undefined_line(alloc, kind, place),
@@ -133,6 +148,29 @@ fn refusal_line(alloc: Global, refusal: Refusal) -> Result<Text, NoMemory>
     let Place { line, col } = refusal.place;
     let rule = refusal.rule.name();
     let text = format!(in alloc; "fortc: {line}:{col}: refused: {rule}\n")?;
+    Text::from_bytes(alloc, text.as_bytes())
+}
+
+fn image_kind_name(kind: ImageKind) -> &'static str
+    ensures { result.now ≡ image_kind_text kind }
+{
+    match kind {
+        ImageKind::Short => "short",
+        ImageKind::Magic => "magic",
+        ImageKind::Version => "version",
+        ImageKind::Count => "count",
+        ImageKind::Function => "function",
+        ImageKind::Instruction => "instruction",
+        ImageKind::Extra => "extra",
+    }
+}
+
+fn image_line(alloc: Global, fault: ImageFault) -> Result<Text, NoMemory>
+    ensures { IfOk result (λ text. text ≡ fault_text (Outcome.ImageRefused fault)) }
+{
+    let ImageFault { kind, offset } = fault;
+    let kind = image_kind_name(kind);
+    let text = format!(in alloc; "fortc: image refused: {kind} at {offset}\n")?;
     Text::from_bytes(alloc, text.as_bytes())
 }
 

@@ -1,14 +1,9 @@
 -- Where the store doesn't fail, its file is the form's image, and the machine stands at its entry.
-use Rattle.std.proofs.Common.{◌≡◌, ℕ, ◌≤◌, Err, refl, ◌∙◌, ap, subst, inr, []}
+use Rattle.std.proofs.Common.{◌≡◌, ℕ, ◌≤◌, Err, refl, ◌∙◌, ap, subst, inr}
 use Rattle.std.proofs.lemmas.Result.{err_from_is_err_and}
-use Rattle.std.specs.Option.{option_map}
 use Rattle.run_meaning.specs.Objects.{StoreState, stored}
-use Rattle.bm_image.specs.Images.{function_at}
-use Rattle.byte_machine.specs.Opening.{program_of, first_core, first_end}
-use Rattle.byte_machine.specs.declared.machine.Stop.TheVariants as stops
 use Rattle.fort_driver.specs.Compiled.{form_image}
 use Rattle.fort_words.specs.Commands.{longest_source}
-use Rattle.fort_driver.proofs.Agreement.{let_in}
 use Rattle.fort_driver.proofs.Kept.{compiled_as, fetch_failed, keep_failed, kept_image}
 use Rattle.fort_driver.proofs.top.prepare.Goals as goal
 
@@ -59,9 +54,6 @@ returns-clause-ready g c =
     let old : StoreState = stored (g.S.Store.files c.args.store.now) (g.S.Store.fetch_count c.args.store.now) (g.S.Store.keep_count c.args.store.now) in
     let fetched : StoreState = stored (g.S.Store.files c.fetch.new.self) (g.S.Store.fetch_count c.fetch.new.self) (g.S.Store.keep_count c.fetch.new.self) in
     let new : StoreState = stored (g.S.Store.files c.keep.new.self) (g.S.Store.fetch_count c.keep.new.self) (g.S.Store.keep_count c.keep.new.self) in
-    let opened = c.in_ok-machine.ensures in
-    let core : c.in_ok-machine.machine.core ≡ first_core (form_image form) [] =
-    opened.core ∙ ap (λ i. first_core i c.new.result) c.in_ok-built.ensures.image ∙ ap (first_core (form_image form)) c.new.ensures in
     record {
       level = refl;
       sizes = refl;
@@ -69,8 +61,5 @@ returns-clause-ready g c =
       image_kept = kept_image _ old fetched new _ _ _ form refl refl source.found (within c.in_ok-source.source.ok.0 source.bound) source.same_files
           c.deref.ensures.value c.in_ok-form.ensures.is (c.deref-2.ensures.value ∙ c.in_ok-built.ensures.bytes) c.in_ok-keep.ensures.kept;
       made = refl;
-      program = opened.program ∙ ap program_of c.in_ok-built.ensures.image;
-      core = core;
-      no_stop = opened.stop ∙ ap (λ i. option_map stops.Ended (first_end (function_at i.functions i.entry))) c.in_ok-built.ensures.image
-          ∙ ap (option_map stops.Ended) (let_in form c.in_ok-form.ensures.form);
+      opened = rw (← c.in_ok-built.ensures.image) c.in_ok-machine.ensures;
     }
