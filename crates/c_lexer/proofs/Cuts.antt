@@ -64,7 +64,8 @@ cut_past line spaced (c ∷ done) rest = cut_past line spaced done rest
 -- one piece, with what comes behind it
 piece_cut : (before : List Stretch) (s : Stretch) (cells : List Cell) (rest : List TokenKind → Bool → Scanned) (piece : Piece)
     → is_refused piece ≡ false
-    → with_piece (line_behind before) (ends_blank before) s.first.place cells piece rest ≡ after_all (token_in before s.first.place piece) (rest (on_line piece (line_behind before)) (is_blank piece))
+    → with_piece (line_behind before) (ends_blank before) s.first.place cells piece rest
+    ≡ after_all (token_in before s.first.place piece) (rest (on_line piece (line_behind before)) (is_blank piece))
 piece_cut before s cells rest Space kept = refl
 piece_cut before s cells rest Newline kept = refl
 piece_cut before s cells rest (TokenPiece kind) kept = refl
@@ -72,28 +73,33 @@ piece_cut before s cells rest (Refused rule offset) kept = absurd cc
 
 stretch_cut : (before : List Stretch) (s : Stretch) (rest : List Cell) → is_refused s.piece ≡ false
     → IsLongest (spelled_behind before) (bytes_of (cells_of s ++ rest)) (length (cells_of s)) s.piece
-    → scan (line_behind before) (ends_blank before) 0 (cells_of s ++ rest) ≡ after_all (token_in before s.first.place s.piece) (scan (line_behind (s ∷ before)) (ends_blank (s ∷ before)) 0 rest)
+    → scan (line_behind before) (ends_blank before) 0 (cells_of s ++ rest)
+    ≡ after_all (token_in before s.first.place s.piece) (scan (line_behind (s ∷ before)) (ends_blank (s ∷ before)) 0 rest)
 unfolding scan line_behind
 stretch_cut before s rest kept is =
     let pred : suc (length s.more) - 1 ≡ length s.more = omega arith in
-    ap (λ r. with_longest (line_behind before) (ends_blank before) s.first.place (cells_of s ++ rest) r (λ line spaced size. scan line spaced (size - 1) (s.more ++ rest)))
+    ap (λ r. with_longest (line_behind before) (ends_blank before) s.first.place (cells_of s ++ rest) r
+    (λ line spaced size. scan line spaced (size - 1) (s.more ++ rest)))
     (longest_is (spelled_behind before) (bytes_of (cells_of s ++ rest)) (length (cells_of s)) s.piece is)
     ∙ piece_cut before s (cells_of s ++ rest) (λ line spaced. scan line spaced (suc (length s.more) - 1) (s.more ++ rest)) s.piece kept
-    ∙ rw pred (ap (after_all (token_in before s.first.place s.piece)) (cut_past (on_line s.piece (line_behind before)) (is_blank s.piece) s.more rest))
+    ∙ rw pred (ap (after_all (token_in before s.first.place s.piece))
+    (cut_past (on_line s.piece (line_behind before)) (is_blank s.piece) s.more rest))
 
 both_fronts : (a b : List Token) (c : Scanned) → after_all a (after_all b c) ≡ after_all (a ++ b) c
 both_fronts a b c = ap (λ (ts : List Token). record { tokens = ts; refusal = c.refusal }) (sym (append_assoc a b c.tokens))
 
 -- the cut behind the stretches, with their tokens before it, is the cut of the whole
 cut_behind : (stretches : List Stretch) (rest : List Cell) → IsEachLongest stretches rest
-    → scan [] false 0 (text_of stretches ++ rest) ≡ after_all (tokens_of stretches) (scan (line_behind stretches) (ends_blank stretches) 0 rest)
+    → scan [] false 0 (text_of stretches ++ rest)
+    ≡ after_all (tokens_of stretches) (scan (line_behind stretches) (ends_blank stretches) 0 rest)
 unfolding text_of line_behind tokens_of
 cut_behind [] rest each = refl
 cut_behind (s ∷ before) rest each =
     ap (scan [] false 0) (append_assoc (text_of before) (cells_of s) rest)
     ∙ cut_behind before (cells_of s ++ rest) each.0
     ∙ ap (after_all (tokens_of before)) (stretch_cut before s rest each.1 each.2)
-    ∙ both_fronts (tokens_of before) (token_in before s.first.place s.piece) (scan (line_behind (s ∷ before)) (ends_blank (s ∷ before)) 0 rest)
+    ∙ both_fronts (tokens_of before) (token_in before s.first.place s.piece)
+    (scan (line_behind (s ∷ before)) (ends_blank (s ∷ before)) 0 rest)
 
 cut_end : (before : List Stretch) (rest : List Cell) (refusal : Option Refusal) → Ends before rest refusal
     → scan (line_behind before) (ends_blank before) 0 rest ≡ record { tokens = []; refusal = refusal }
@@ -116,7 +122,8 @@ cut_whole : (bytes : List ℕ) (stretches : List Stretch) (rest : List Cell) (re
 unfolding lexed
 cut_whole bytes stretches rest refusal text each end =
     ap outcome_of
-    (ap (scan [] false 0) (sym text) ∙ cut_behind stretches rest each ∙ ap (after_all (tokens_of stretches)) (cut_end stretches rest refusal end) ∙ no_more (tokens_of stretches) refusal)
+    (ap (scan [] false 0) (sym text) ∙ cut_behind stretches rest each
+    ∙ ap (after_all (tokens_of stretches)) (cut_end stretches rest refusal end) ∙ no_more (tokens_of stretches) refusal)
 
 pub lexed_only : (bytes : List ℕ) (outcome : Result (List Token) Refusal) → IsLexed bytes outcome → outcome ≡ lexed bytes
 lexed_only bytes outcome is = is.gives ∙ sym (cut_whole bytes is.stretches is.rest is.refusal is.text is.longest is.end)
@@ -138,11 +145,14 @@ next_cells c cs n = ap (λ (xs : List Cell). c ∷ xs) (take-append-drop n cs)
 module _ (text : List Cell) where
   stopped : (before : List Stretch) (rest : List Cell) (refusal : Option Refusal) → text_of before ++ rest ≡ text
       → IsEachLongest before rest → Ends before rest refusal → CutFrom text
-  stopped before rest refusal text_is each end = record { stretches = before; rest = rest; refusal = refusal; text_is = text_is; each = each; end = end }
+  stopped before rest refusal text_is each end =
+      record { stretches = before; rest = rest; refusal = refusal; text_is = text_is; each = each; end = end }
 
   -- one stretch more
-  module _ (before : List Stretch) (c : Cell) (cs : List Cell) (text_is : text_of before ++ c ∷ cs ≡ text) (each : IsEachLongest before (c ∷ cs))
-      (more : (s : Stretch) (rest : List Cell) → length rest ≤ length cs → text_of (s ∷ before) ++ rest ≡ text → IsEachLongest (s ∷ before) rest → CutFrom text) where
+  module _ (before : List Stretch) (c : Cell) (cs : List Cell) (text_is : text_of before ++ c ∷ cs ≡ text)
+      (each : IsEachLongest before (c ∷ cs))
+      (more : (s : Stretch) (rest : List Cell) → length rest ≤ length cs → text_of (s ∷ before) ++ rest ≡ text
+      → IsEachLongest (s ∷ before) rest → CutFrom text) where
     taken : (n : ℕ) (piece : Piece) → is_refused piece ≡ false → IsLongest (spelled_behind before) (bytes_of (c ∷ cs)) (suc n) piece
         → CutFrom text
     unfolding text_of
@@ -151,7 +161,8 @@ module _ (text : List Cell) where
         let same : cells_of s ++ drop n cs ≡ c ∷ cs = next_cells c cs n in
         let within : suc n ≤ length (bytes_of (c ∷ cs)) = is.within in
         let size : length (take n cs) ≡ n = length-take-le n cs (omega (arith, within, length-map cs (λ c. c.byte))) in
-        more s (drop n cs) (omega (arith, length-drop n cs)) (append_assoc (text_of before) (cells_of s) (drop n cs) ∙ ap (λ (xs : List Cell). text_of before ++ xs) same ∙ text_is) (
+        more s (drop n cs) (omega (arith, length-drop n cs))
+        (append_assoc (text_of before) (cells_of s) (drop n cs) ∙ ap (λ (xs : List Cell). text_of before ++ xs) same ∙ text_is) (
           subst (IsEachLongest before) (sym same) each,
           kept,
           subst (λ (xs : List Cell). IsLongest (spelled_behind before) (bytes_of xs) (length (cells_of s)) piece) (sym same)
@@ -175,7 +186,8 @@ module _ (text : List Cell) where
   cut_on bound before [] few text_is each = stopped before [] None text_is each at_end
   cut_on zero before (c ∷ cs) few text_is each = absurd (omega arith)
   cut_on (suc bound) before (c ∷ cs) few text_is each =
-      front_at before c cs text_is each (λ s rest less. cut_on bound (s ∷ before) rest (omega arith)) (longest (spelled_behind before) (bytes_of (c ∷ cs))) (longest_tells (spelled_behind before) (bytes_of (c ∷ cs)))
+      front_at before c cs text_is each (λ s rest less. cut_on bound (s ∷ before) rest (omega arith))
+      (longest (spelled_behind before) (bytes_of (c ∷ cs))) (longest_tells (spelled_behind before) (bytes_of (c ∷ cs)))
 
 pub lexed_is : (bytes : List ℕ) → IsLexed bytes (lexed bytes)
 unfolding text_of

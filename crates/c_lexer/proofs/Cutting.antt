@@ -73,20 +73,24 @@ line_more kind (a ∷ b ∷ c ∷ cs) = refl
 
 -- ---- the cut is the reading
 
-piece_same : (line : List TokenKind) (spaced : Bool) (c : Cell) (cs : List Cell) (piece : Piece) (rest : List TokenKind → Bool → Scanned) (rest' : State → Scanned)
+piece_same : (line : List TokenKind) (spaced : Bool) (c : Cell) (cs : List Cell) (piece : Piece) (rest : List TokenKind → Bool → Scanned)
+    (rest' : State → Scanned)
     → ((line : List TokenKind) (spaced : Bool) → rest line spaced ≡ rest' (state (line_of line) spaced))
     → with_piece line spaced c.place (c ∷ cs) piece rest ≡ read_piece (state (line_of line) spaced) c.place (places_of (c ∷ cs)) piece rest'
 piece_same line spaced c cs Space rest rest' e = e line true
 piece_same line spaced c cs Newline rest rest' e = e [] true
 piece_same line spaced c cs (TokenPiece kind) rest rest' e =
-    rw (start_is line) (ap (token_then (token_at c.place (is_start (line_of line)) spaced kind)) (e (kind ∷ line) false ∙ ap (λ l. rest' (state l false)) (line_more kind line)))
+    rw (start_is line) (ap (token_then (token_at c.place (is_start (line_of line)) spaced kind))
+    (e (kind ∷ line) false ∙ ap (λ l. rest' (state l false)) (line_more kind line)))
 piece_same line spaced c cs (Refused rule offset) rest rest' e = refl
 
-front_same : (line : List TokenKind) (spaced : Bool) (c : Cell) (cs : List Cell) (r : Option (ℕ × Piece)) (rest : List TokenKind → Bool → ℕ → Scanned) (rest' : State → ℕ → Scanned)
+front_same : (line : List TokenKind) (spaced : Bool) (c : Cell) (cs : List Cell) (r : Option (ℕ × Piece))
+    (rest : List TokenKind → Bool → ℕ → Scanned) (rest' : State → ℕ → Scanned)
     → ((line : List TokenKind) (spaced : Bool) (size : ℕ) → rest line spaced size ≡ rest' (state (line_of line) spaced) size)
     → with_longest line spaced c.place (c ∷ cs) r rest ≡ read_front (state (line_of line) spaced) c.place (places_of (c ∷ cs)) r rest'
 front_same line spaced c cs None rest rest' e = refl
-front_same line spaced c cs (Some r) rest rest' e = piece_same line spaced c cs r.1 (λ line spaced. rest line spaced r.0) (λ s. rest' s r.0) (λ line spaced. e line spaced r.0)
+front_same line spaced c cs (Some r) rest rest' e =
+    piece_same line spaced c cs r.1 (λ line spaced. rest line spaced r.0) (λ s. rest' s r.0) (λ line spaced. e line spaced r.0)
 
 pub cut_is : (line : List TokenKind) (spaced : Bool) (left : ℕ) (cells : List Cell)
     → scan line spaced left cells ≡ read (state (line_of line) spaced) left (bytes_of cells) (places_of cells)
@@ -94,9 +98,13 @@ unfolding scan read
 cut_is line spaced left [] = refl
 cut_is line spaced (suc left) (c ∷ cs) = cut_is line spaced left cs
 cut_is line spaced zero (c ∷ cs) =
-    front_same line spaced c cs (longest (spelled (opens_header line)) (bytes_of (c ∷ cs))) (λ line spaced size. scan line spaced (size - 1) cs) (λ s size. read s (size - 1) (bytes_of cs) (places_of cs)) (λ line spaced size. cut_is line spaced (size - 1) cs)
-    ∙ ap (λ r. read_front (state (line_of line) spaced) c.place (places_of (c ∷ cs)) r (λ s size. read s (size - 1) (bytes_of cs) (places_of cs)))
-    (ap (λ v. longest (spelled v) (bytes_of (c ∷ cs))) (header_is line) ∙ longest_piece (is_after_include (line_of line)) (bytes_of (c ∷ cs)))
+    front_same line spaced c cs (longest (spelled (opens_header line)) (bytes_of (c ∷ cs)))
+    (λ line spaced size. scan line spaced (size - 1) cs) (λ s size. read s (size - 1) (bytes_of cs) (places_of cs))
+    (λ line spaced size. cut_is line spaced (size - 1) cs)
+    ∙ ap (λ r. read_front (state (line_of line) spaced) c.place (places_of (c ∷ cs)) r
+    (λ s size. read s (size - 1) (bytes_of cs) (places_of cs)))
+    (ap (λ v. longest (spelled v) (bytes_of (c ∷ cs))) (header_is line)
+    ∙ longest_piece (is_after_include (line_of line)) (bytes_of (c ∷ cs)))
 
 -- ---- one piece of the reading
 
@@ -116,7 +124,8 @@ rest_same : (s : State) (place : Place) (places : List Place) (piece : Piece) (f
     → read_piece s place places piece f ≡ read_piece s place places piece g
 rest_same s place places Space f g e = e (state s.line true)
 rest_same s place places Newline f g e = e (state Start true)
-rest_same s place places (TokenPiece kind) f g e = ap (token_then (token_at place (is_start s.line) s.spaced kind)) (e (state (line_after s.line kind) false))
+rest_same s place places (TokenPiece kind) f g e =
+    ap (token_then (token_at place (is_start s.line) s.spaced kind)) (e (state (line_after s.line kind) false))
 rest_same s place places (Refused rule offset) f g e = refl
 
 -- what comes behind a piece of this size
@@ -132,7 +141,8 @@ read_some s (b ∷ bs) [] d size piece lt same ge e = absurd (omega arith)
 read_some s (b ∷ bs) (p ∷ ps) d zero piece lt same ge e = absurd (omega arith)
 read_some s (b ∷ bs) (p ∷ ps) d (suc size) piece lt same ge e =
     let pred : suc size - 1 ≡ size = omega arith in
-    rw (e, pred) (rest_same s p (p ∷ ps) piece (λ s. read s size bs ps) (rest_of (b ∷ bs) (p ∷ ps) (suc size)) (λ s. read_left s size bs ps))
+    rw (e, pred) (rest_same s p (p ∷ ps) piece (λ s. read s size bs ps) (rest_of (b ∷ bs) (p ∷ ps) (suc size))
+    (λ s. read_left s size bs ps))
 
 read_none : (s : State) (bs : List ℕ) (ps : List Place) (d : Place) → 0 < length bs → length ps ≡ length bs
     → first_piece (is_after_include s.line) bs ≡ None → read s 0 bs ps ≡ refused_at BadByte (get_or ps 0 d)
@@ -158,7 +168,9 @@ bounds after_include bs (Some (suc n, x)) tells size piece e =
 
 pub piece_bounds : (after_include : Bool) (bs : List ℕ) (size : ℕ) (piece : Piece) → first_piece after_include bs ≡ Some (size, piece)
     → (1 ≤ size) × (size ≤ length bs)
-piece_bounds after_include bs size piece e = bounds after_include bs (longest (spelled after_include) bs) (longest_tells (spelled after_include) bs) size piece (longest_piece after_include bs ∙ e)
+piece_bounds after_include bs size piece e =
+    bounds after_include bs (longest (spelled after_include) bs) (longest_tells (spelled after_include) bs) size piece
+    (longest_piece after_include bs ∙ e)
 
 -- ---- the loop
 
@@ -178,8 +190,10 @@ same_left bytes places at same = omega (arith, length-drop at bytes, length-drop
 first_place : (places : List Place) (at : ℕ) (d : Place) → get_or (drop at places) 0 d ≡ get_or places at d
 first_place places at d = get_or-drop at places 0 d ∙ ap (λ (i : ℕ). get_or places i d) (add-zero at)
 
-module _ (bytes rest : List ℕ) (places fronts : List Place) (at : ℕ) (s : State) (after_include : Bool) (front : Option (ℕ × Piece)) (d : Place)
-    (lt : at < length bytes) (same : length places ≡ length bytes) (rest_is : rest ≡ drop at bytes) (line_is : after_include ≡ is_after_include s.line) (front_is : front ≡ first_piece after_include rest) where
+module _ (bytes rest : List ℕ) (places fronts : List Place) (at : ℕ) (s : State) (after_include : Bool)
+    (front : Option (ℕ × Piece)) (d : Place)
+    (lt : at < length bytes) (same : length places ≡ length bytes) (rest_is : rest ≡ drop at bytes)
+    (line_is : after_include ≡ is_after_include s.line) (front_is : front ≡ first_piece after_include rest) where
   front_at : first_piece (is_after_include s.line) (drop at bytes) ≡ front
   front_at = sym (front_is ∙ ap (first_piece after_include) rest_is ∙ ap (λ v. first_piece v (drop at bytes)) line_is)
 
@@ -202,14 +216,17 @@ module _ (bytes rest : List ℕ) (places fronts : List Place) (at : ℕ) (s : St
       → read s 0 (drop at bytes) (drop at places) ≡ read_piece s (get_or places at d) fronts piece (rest_of bytes places (at + size))
   piece_at size piece some fronts_is =
       let b = piece_bounds (is_after_include s.line) (drop at bytes) size piece (front_at ∙ some) in
-      read_some s (drop at bytes) (drop at places) d size piece (some_left bytes at lt) (same_left bytes places at same) b.0 (front_at ∙ some)
-      ∙ rest_same s (get_or (drop at places) 0 d) (drop at places) piece (rest_of (drop at bytes) (drop at places) size) (rest_of bytes places (at + size))
+      read_some s (drop at bytes) (drop at places) d size piece (some_left bytes at lt) (same_left bytes places at same) b.0
+      (front_at ∙ some)
+      ∙ rest_same s (get_or (drop at places) 0 d) (drop at places) piece (rest_of (drop at bytes) (drop at places) size)
+      (rest_of bytes places (at + size))
       (λ s. rw (drop-drop size at bytes, drop-drop size at places) refl)
       ∙ rw (first_place places at d, ← fronts_is) refl
 
   pub piece_refused : (size : ℕ) (piece : Piece) (f : Fault) (tokens : List Token) (total : Scanned) → front ≡ Some (size, piece)
       → fronts ≡ drop at places
-      → Fails f (λ out. (rest : State → Scanned) → outcome_of (after_all tokens (read_piece s (get_or places at d) fronts piece rest)) ≡ out) → after_all tokens (read s 0 (drop at bytes) (drop at places)) ≡ total → Fails f (λ out. outcome_of total ≡ out)
+      → Fails f (λ out. (rest : State → Scanned) → outcome_of (after_all tokens (read_piece s (get_or places at d) fronts piece rest))
+      ≡ out) → after_all tokens (read s 0 (drop at bytes) (drop at places)) ≡ total → Fails f (λ out. outcome_of total ≡ out)
   piece_refused size piece fault.NoMemory tokens total some fronts_is adds owed = tt
   piece_refused size piece (fault.Refused refusal) tokens total some fronts_is adds owed =
       ap outcome_of (sym owed ∙ ap (after_all tokens) (piece_at size piece some fronts_is)) ∙ adds (rest_of bytes places (at + size))

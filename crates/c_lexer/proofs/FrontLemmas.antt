@@ -36,14 +36,16 @@ one_of None = refl
 one_of (Some a) = refl
 
 two_of : (a b : Option Punct)
-    → further {X = Piece} None (further (token_of a) (option_map (λ x. (0, x)) (token_of b))) ≡ option_map punct_front (option_or (with_length 2 b) (with_length 1 a))
+    → further {X = Piece} None (further (token_of a) (option_map (λ x. (0, x)) (token_of b)))
+    ≡ option_map punct_front (option_or (with_length 2 b) (with_length 1 a))
 two_of None None = refl
 two_of (Some a) None = refl
 two_of None (Some b) = refl
 two_of (Some a) (Some b) = refl
 
 three_of : (a b c : Option Punct)
-    → further {X = Piece} None (further (token_of a) (further (token_of b) (option_map (λ x. (0, x)) (token_of c)))) ≡ option_map punct_front (option_or (with_length 3 c) (option_or (with_length 2 b) (with_length 1 a)))
+    → further {X = Piece} None (further (token_of a) (further (token_of b) (option_map (λ x. (0, x)) (token_of c))))
+    ≡ option_map punct_front (option_or (with_length 3 c) (option_or (with_length 2 b) (with_length 1 a)))
 three_of None None None = refl
 three_of (Some a) None None = refl
 three_of None (Some b) None = refl
@@ -62,7 +64,8 @@ longest_by_bytes [] = refl
 longest_by_bytes (a ∷ []) = one_of (one_byte a)
 longest_by_bytes (a ∷ b ∷ []) = two_of (one_byte a) (two_bytes a b)
 longest_by_bytes (a ∷ b ∷ c ∷ rest) =
-    ap (λ r. further None (further (token_of (one_byte a)) (further (token_of (two_bytes a b)) r))) (longest_first (λ front. by_bytes_piece (a ∷ b ∷ c ∷ front)) (λ d front. refl) rest)
+    ap (λ r. further None (further (token_of (one_byte a)) (further (token_of (two_bytes a b)) r)))
+    (longest_first (λ front. by_bytes_piece (a ∷ b ∷ c ∷ front)) (λ d front. refl) rest)
     ∙ three_of (one_byte a) (two_bytes a b) (three_bytes a b c)
 
 longest_operator : (text : List ℕ) → longest punct_piece text ≡ first_operator text
@@ -104,7 +107,9 @@ word_ends b (x ∷ y ∷ []) c d rest all out = refl
 word_ends b (x ∷ y ∷ z ∷ front) c d rest all out = refl
 
 word_joined : (b n : ℕ) (bs : List ℕ) (v w : Bool) → nat_lt n (length bs) ≡ v → is_prefixed (b ∷ take (suc n) bs) ≡ w
-    → further {X = Piece} None (Some (after_run n (Token (k.Name (b ∷ take n bs))) (if nat_lt n (length bs) then prefixed b (take (suc n) bs) else None))) ≡ Some (word_of (n + 1) (b ∷ bs))
+    → further {X = Piece} None
+    (Some (after_run n (Token (k.Name (b ∷ take n bs))) (if nat_lt n (length bs) then prefixed b (take (suc n) bs) else None)))
+    ≡ Some (word_of (n + 1) (b ∷ bs))
 word_joined b n bs v w e f =
     let same : nat_lt (n + 1) (suc (length bs)) ≡ nat_lt n (length bs) = grind (arith, nat_tests) in
     let one : n + 1 ≡ suc n = omega arith in
@@ -112,8 +117,10 @@ word_joined b n bs v w e f =
     rw (same, one, two) (joined v w e f)
   where
     joined : (v w : Bool) → nat_lt n (length bs) ≡ v → is_prefixed (b ∷ take (suc n) bs) ≡ w
-        → further {X = Piece} None (Some (after_run n (Token (k.Name (b ∷ take n bs))) (if nat_lt n (length bs) then prefixed b (take (suc n) bs) else None)))
-        ≡ Some (if nat_lt n (length bs) && is_prefixed (b ∷ take (suc n) bs) then (suc (suc n), Refused LeftOutLiteral 0) else (suc n, Token (k.Name (b ∷ take n bs))))
+        → further {X = Piece} None
+        (Some (after_run n (Token (k.Name (b ∷ take n bs))) (if nat_lt n (length bs) then prefixed b (take (suc n) bs) else None)))
+        ≡ Some (if nat_lt n (length bs) && is_prefixed (b ∷ take (suc n) bs) then (suc (suc n), Refused LeftOutLiteral 0)
+        else (suc n, Token (k.Name (b ∷ take n bs))))
     joined true true e f = rw (e, f) refl
     joined true false e f = rw (e, f) refl
     joined false w e f = rw e refl
@@ -122,8 +129,10 @@ pub longest_word : (b : ℕ) (bs : List ℕ) → further None (longest (word b) 
 unfolding first_word
 longest_word b bs =
     ap (further None) (longest_run goes_on (λ front. Token (k.Name (b ∷ front))) (prefixed b) bs (word_ends b))
-    ∙ ap (λ o. further None (Some (after_run (prefix_len goes_on bs) (Token (k.Name (b ∷ take (prefix_len goes_on bs) bs))) o))) (past_is (prefixed b) (prefix_len goes_on bs) bs)
-    ∙ word_joined b (prefix_len goes_on bs) bs (nat_lt (prefix_len goes_on bs) (length bs)) (is_prefixed (b ∷ take (suc (prefix_len goes_on bs)) bs)) refl refl
+    ∙ ap (λ o. further None (Some (after_run (prefix_len goes_on bs) (Token (k.Name (b ∷ take (prefix_len goes_on bs) bs))) o)))
+    (past_is (prefixed b) (prefix_len goes_on bs) bs)
+    ∙ word_joined b (prefix_len goes_on bs) bs (nat_lt (prefix_len goes_on bs) (length bs))
+    (is_prefixed (b ∷ take (suc (prefix_len goes_on bs)) bs)) refl refl
 
 -- ---- numbers
 
@@ -135,10 +144,12 @@ dot_step : (b : ℕ) (bs : List ℕ) (v : Bool) → is_ascii_digit b ≡ v → f
 unfolding longest first_dot
 dot_step b bs true e =
     ap (λ r. further None (further (after_dot []) r))
-    (longest_same (λ front. after_dot (b ∷ front)) (λ front. number_from (46 ∷ b ∷ front) b front) (λ front. rw e refl) bs ∙ longest_number b (λ front. number (46 ∷ b ∷ front)) bs)
+    (longest_same (λ front. after_dot (b ∷ front)) (λ front. number_from (46 ∷ b ∷ front) b front) (λ front. rw e refl) bs
+    ∙ longest_number b (λ front. number (46 ∷ b ∷ front)) bs)
     ∙ rw e refl
 dot_step b bs false e =
-    ap (λ r. further None (further (after_dot []) r)) (longest_same (λ front. after_dot (b ∷ front)) (λ front. punct_piece (46 ∷ b ∷ front)) (λ front. rw e refl) bs)
+    ap (λ r. further None (further (after_dot []) r))
+    (longest_same (λ front. after_dot (b ∷ front)) (λ front. punct_piece (46 ∷ b ∷ front)) (λ front. rw e refl) bs)
     ∙ operator_front 46 (b ∷ bs) ∙ rw e refl
 
 pub longest_dot : (bs : List ℕ) → further None (longest after_dot bs) ≡ first_dot (46 ∷ bs)
@@ -153,12 +164,16 @@ slash_step : (b : ℕ) (bs : List ℕ) (v w : Bool) → (b == 47) ≡ v → (b =
 unfolding longest first_slash
 slash_step b bs true w e f =
     ap (λ r. further None (further (after_slash []) r))
-    (longest_same (λ front. after_slash (b ∷ front)) (λ front. if list_all (λ c. not (is_newline c)) front then Some Space else None) (λ front. rw e refl) bs ∙ longest_all (λ c. not (is_newline c)) (λ front. Space) bs)
+    (longest_same (λ front. after_slash (b ∷ front)) (λ front. if list_all (λ c. not (is_newline c)) front then Some Space else None)
+    (λ front. rw e refl) bs ∙ longest_all (λ c. not (is_newline c)) (λ front. Space) bs)
     ∙ rw e refl
 slash_step b bs false true e f =
-    ap (λ r. further None (further (after_slash []) r)) (longest_same (λ front. after_slash (b ∷ front)) (comment false) (λ front. rw (e, f) refl) bs ∙ longest_comment false bs) ∙ rw (e, f) refl
+    ap (λ r. further None (further (after_slash []) r))
+    (longest_same (λ front. after_slash (b ∷ front)) (comment false) (λ front. rw (e, f) refl) bs ∙ longest_comment false bs)
+    ∙ rw (e, f) refl
 slash_step b bs false false e f =
-    ap (λ r. further None (further (after_slash []) r)) (longest_same (λ front. after_slash (b ∷ front)) (λ front. punct_piece (47 ∷ b ∷ front)) (λ front. rw (e, f) refl) bs)
+    ap (λ r. further None (further (after_slash []) r))
+    (longest_same (λ front. after_slash (b ∷ front)) (λ front. punct_piece (47 ∷ b ∷ front)) (λ front. rw (e, f) refl) bs)
     ∙ operator_front 47 (b ∷ bs) ∙ rw (e, f) refl
 
 pub longest_slash : (bs : List ℕ) → further None (longest after_slash bs) ≡ first_slash (47 ∷ bs)
@@ -193,18 +208,26 @@ header_step : (after_include : Bool) (b : ℕ) (bs : List ℕ) (v : Bool) → (b
     → longest (spelled after_include) (b ∷ bs) ≡ first_other after_include (b ∷ bs)
 unfolding spelled first_other
 header_step after_include b bs true e other f g h i =
-    behind after_include b bs (literal_piece 62 false header) (λ front. rw (other.space, other.newline, other.letter, other.digit, f, g, h, i, e) refl) ∙ front_literal 62 false header bs ∙ rw (f, g, h, i, e) refl
+    behind after_include b bs (literal_piece 62 false header)
+    (λ front. rw (other.space, other.newline, other.letter, other.digit, f, g, h, i, e) refl) ∙ front_literal 62 false header bs
+    ∙ rw (f, g, h, i, e) refl
 header_step after_include b bs false e other f g h i =
-    behind after_include b bs (λ front. punct_piece (b ∷ front)) (λ front. rw (other.space, other.newline, other.letter, other.digit, f, g, h, i, e) refl) ∙ operator_front b bs ∙ rw (f, g, h, i, e) refl
+    behind after_include b bs (λ front. punct_piece (b ∷ front))
+    (λ front. rw (other.space, other.newline, other.letter, other.digit, f, g, h, i, e) refl) ∙ operator_front b bs
+    ∙ rw (f, g, h, i, e) refl
 
 quote_step : (after_include : Bool) (b : ℕ) (bs : List ℕ) (v w : Bool) → (b == 34) ≡ v → (b == 39) ≡ w → IsOther b → (b == 46) ≡ false
     → (b == 47) ≡ false
     → longest (spelled after_include) (b ∷ bs) ≡ first_other after_include (b ∷ bs)
 unfolding spelled first_other
 quote_step after_include b bs true w h i other f g =
-    behind after_include b bs (literal_piece 34 true string) (λ front. rw (other.space, other.newline, other.letter, other.digit, f, g, h) refl) ∙ front_literal 34 true string bs ∙ rw (f, g, h) refl
+    behind after_include b bs (literal_piece 34 true string)
+    (λ front. rw (other.space, other.newline, other.letter, other.digit, f, g, h) refl) ∙ front_literal 34 true string bs
+    ∙ rw (f, g, h) refl
 quote_step after_include b bs false true h i other f g =
-    behind after_include b bs (literal_piece 39 true constant) (λ front. rw (other.space, other.newline, other.letter, other.digit, f, g, h, i) refl) ∙ front_literal 39 true constant bs ∙ rw (f, g, h, i) refl
+    behind after_include b bs (literal_piece 39 true constant)
+    (λ front. rw (other.space, other.newline, other.letter, other.digit, f, g, h, i) refl) ∙ front_literal 39 true constant bs
+    ∙ rw (f, g, h, i) refl
 quote_step after_include b bs false false h i other f g = header_step after_include b bs (b == 60 && after_include) refl other f g h i
 
 other_step : (after_include : Bool) (b : ℕ) (bs : List ℕ) (v w : Bool) → (b == 46) ≡ v → (b == 47) ≡ w → IsOther b
@@ -239,4 +262,5 @@ piece_step after_include b bs false false false false d e f g =
 pub longest_piece : (after_include : Bool) (bs : List ℕ) → longest (spelled after_include) bs ≡ first_piece after_include bs
 unfolding longest spelled first_piece
 longest_piece after_include [] = refl
-longest_piece after_include (b ∷ bs) = piece_step after_include b bs (is_space b) (is_newline b) (begins_name b) (is_ascii_digit b) refl refl refl refl
+longest_piece after_include (b ∷ bs) =
+    piece_step after_include b bs (is_space b) (is_newline b) (begins_name b) (is_ascii_digit b) refl refl refl refl

@@ -76,13 +76,15 @@ left_out_is (c ∷ cs) b bs = rw (splice_is (c ∷ cs) b bs, behind_is (c ∷ cs
 -- ---- the cells from a place on
 
 abbrev cells_from : List ℕ → List ℕ → List Cell
-cells_from before bs = map (cell_of (before ++ bs)) (filter (λ i. not (is_left_out (before ++ bs) i)) (range_with_len (length before) (length bs)))
+cells_from before bs =
+    map (cell_of (before ++ bs)) (filter (λ i. not (is_left_out (before ++ bs) i)) (range_with_len (length before) (length bs)))
 
 abbrev kept : Bool → Cell → List Cell → List Cell
 kept out cell cells = if out then cells else cell ∷ cells
 
 cells_step : (whole : List ℕ) (here : ℕ) (rest : List ℕ) (out : Bool) → is_left_out whole here ≡ out
-    → map (cell_of whole) (filter (λ i. not (is_left_out whole i)) (here ∷ rest)) ≡ kept out (cell_of whole here) (map (cell_of whole) (filter (λ i. not (is_left_out whole i)) rest))
+    → map (cell_of whole) (filter (λ i. not (is_left_out whole i)) (here ∷ rest))
+    ≡ kept out (cell_of whole here) (map (cell_of whole) (filter (λ i. not (is_left_out whole i)) rest))
 cells_step whole here rest true e = rw e refl
 cells_step whole here rest false e = rw e refl
 

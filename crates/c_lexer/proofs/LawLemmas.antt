@@ -46,19 +46,24 @@ longest_kind : (after_include : Bool) (bs : List ℕ) (n : ℕ) (kind : TokenKin
     → IsLexedKind kind
 longest_kind after_include bs n kind tells = (token_facts after_include (take n bs) kind tells.is).lexed
 
-piece_kinds : (after_include : Bool) (bs : List ℕ) (n : ℕ) (line : List TokenKind) (spaced : Bool) (place : Place) (cells : List Cell) (piece : Piece) (rest : List TokenKind → Bool → Scanned) → IsLongest (spelled after_include) bs n piece
+piece_kinds : (after_include : Bool) (bs : List ℕ) (n : ℕ) (line : List TokenKind) (spaced : Bool) (place : Place) (cells : List Cell)
+    (piece : Piece) (rest : List TokenKind → Bool → Scanned) → IsLongest (spelled after_include) bs n piece
     → ((line : List TokenKind) (spaced : Bool) → AllByRecursion HasLexedKind (rest line spaced).tokens)
     → AllByRecursion HasLexedKind (with_piece line spaced place cells piece rest).tokens
 piece_kinds after_include bs n line spaced place cells Space rest tells all = all line true
 piece_kinds after_include bs n line spaced place cells Newline rest tells all = all [] true
-piece_kinds after_include bs n line spaced place cells (TokenPiece kind) rest tells all = (longest_kind after_include bs n kind tells, all (kind ∷ line) false)
+piece_kinds after_include bs n line spaced place cells (TokenPiece kind) rest tells all =
+    (longest_kind after_include bs n kind tells, all (kind ∷ line) false)
 piece_kinds after_include bs n line spaced place cells (Refused rule offset) rest tells all = tt
 
-front_kinds : (after_include : Bool) (bs : List ℕ) (line : List TokenKind) (spaced : Bool) (place : Place) (cells : List Cell) (r : Option (ℕ × Piece)) (rest : List TokenKind → Bool → ℕ → Scanned) → LongestFront (spelled after_include) bs r
+front_kinds : (after_include : Bool) (bs : List ℕ) (line : List TokenKind) (spaced : Bool) (place : Place) (cells : List Cell)
+    (r : Option (ℕ × Piece)) (rest : List TokenKind → Bool → ℕ → Scanned) → LongestFront (spelled after_include) bs r
     → ((line : List TokenKind) (spaced : Bool) (size : ℕ) → AllByRecursion HasLexedKind (rest line spaced size).tokens)
     → AllByRecursion HasLexedKind (with_longest line spaced place cells r rest).tokens
 front_kinds after_include bs line spaced place cells None rest tells all = tt
-front_kinds after_include bs line spaced place cells (Some r) rest tells all = piece_kinds after_include bs r.0 line spaced place cells r.1 (λ line spaced. rest line spaced r.0) tells (λ line spaced. all line spaced r.0)
+front_kinds after_include bs line spaced place cells (Some r) rest tells all =
+    piece_kinds after_include bs r.0 line spaced place cells r.1 (λ line spaced. rest line spaced r.0) tells
+    (λ line spaced. all line spaced r.0)
 
 cut_kinds : (line : List TokenKind) (spaced : Bool) (left : ℕ) (cells : List Cell)
     → AllByRecursion HasLexedKind (scan line spaced left cells).tokens
@@ -66,7 +71,8 @@ unfolding scan
 cut_kinds line spaced left [] = tt
 cut_kinds line spaced (suc left) (c ∷ cs) = cut_kinds line spaced left cs
 cut_kinds line spaced zero (c ∷ cs) =
-    front_kinds (opens_header line) (bytes_of (c ∷ cs)) line spaced c.place (c ∷ cs) (longest (spelled (opens_header line)) (bytes_of (c ∷ cs))) (λ line spaced size. scan line spaced (size - 1) cs)
+    front_kinds (opens_header line) (bytes_of (c ∷ cs)) line spaced c.place (c ∷ cs)
+    (longest (spelled (opens_header line)) (bytes_of (c ∷ cs))) (λ line spaced size. scan line spaced (size - 1) cs)
     (longest_tells (spelled (opens_header line)) (bytes_of (c ∷ cs))) (λ line spaced size. cut_kinds line spaced (size - 1) cs)
 
 outcome_kinds : (tokens : List Token) (o : Option Token) (refusal : Option Refusal) (ts : List Token) → AllByRecursion HasLexedKind tokens
@@ -79,7 +85,8 @@ lexed_kinds : (bytes : List ℕ) (ts : List Token) → lexed bytes ≡ Ok ts →
 unfolding lexed
 lexed_kinds bytes ts is =
     let c = scan [] false 0 (placed bytes) in
-    All-from_recursion HasLexedKind ts (outcome_kinds c.tokens (slice_get c.tokens token_limit) c.refusal ts (cut_kinds [] false 0 (placed bytes)) is)
+    All-from_recursion HasLexedKind ts (outcome_kinds c.tokens (slice_get c.tokens token_limit) c.refusal ts
+    (cut_kinds [] false 0 (placed bytes)) is)
 
 pub kinds_given : {V : Type 0} (see : V → List Token) (r : Result V Fault) (bytes : List ℕ) → Answers see r (λ out. lexed bytes ≡ out)
     → IfOk r (λ v. All HasLexedKind (see v))
@@ -87,9 +94,6 @@ kinds_given see (Ok v) bytes is = lexed_kinds bytes (see v) is
 kinds_given see (Err f) bytes is = tt
 
 -- ---- a text that is one token
-
-whole_step : {X : Type 0} (here : Option X) (n : ℕ) (x : X) → further here (Some (n, x)) ≡ Some (suc n, x)
-whole_step here n x = refl
 
 longest_whole : {X : Type 0} (f : List ℕ → Option X) (bs : List ℕ) (x : X) → f bs ≡ Some x → longest f bs ≡ Some (length bs, x)
 unfolding longest
@@ -127,7 +131,8 @@ cut_over line spaced (suc left) (c ∷ cs) le = cut_over line spaced left cs (om
 -- the cut of one token that goes to the end
 cut_one : (line : List TokenKind) (spaced : Bool) (row col : ℕ) (b : ℕ) (bs : List ℕ) (kind : TokenKind) → on_line (b ∷ bs) ≡ true
     → spelled (opens_header line) (b ∷ bs) ≡ Some (TokenPiece kind)
-    → scan line spaced 0 (joined false row col (b ∷ bs)) ≡ token_then (token_at (record { line = row; col = col }) (is_first line) spaced kind) nothing_left
+    → scan line spaced 0 (joined false row col (b ∷ bs))
+    ≡ token_then (token_at (record { line = row; col = col }) (is_first line) spaced kind) nothing_left
 unfolding scan
 cut_one line spaced row col b bs kind all is =
     let parts = and_parts (not (b == 10)) (on_line bs) all in
@@ -135,7 +140,12 @@ cut_one line spaced row col b bs kind all is =
     let size : length (joined false row (col + 1) bs) ≤ length bs = placed_length row col bs bytes in
     let pred : suc (length bs) - 1 ≡ length bs = omega arith in
     ap (scan line spaced 0) (placed_first b bs row col all)
-    ∙ rw (bytes, longest_whole (spelled (opens_header line)) (b ∷ bs) (TokenPiece kind) is, pred, cut_over (kind ∷ line) false (length bs) (joined false row (col + 1) bs) size) refl
+    ∙ rw (
+      bytes,
+      longest_whole (spelled (opens_header line)) (b ∷ bs) (TokenPiece kind) is,
+      pred,
+      cut_over (kind ∷ line) false (length bs) (joined false row (col + 1) bs) size,
+    ) refl
   where
     placed_length : (row col : ℕ) (bs : List ℕ) → bytes_of (joined false row (col + 1) bs) ≡ bs
         → length (joined false row (col + 1) bs) ≤ length bs
@@ -179,17 +189,20 @@ space_first after_include bs = longest_piece after_include (32 ∷ bs)
 -- the cells of `#include ` and of what stands behind it
 abbrev include_cells : List Cell → List Cell
 include_cells cs =
-    cell_at 35 1 1 ∷ cell_at 105 1 2 ∷ cell_at 110 1 3 ∷ cell_at 99 1 4 ∷ cell_at 108 1 5 ∷ cell_at 117 1 6 ∷ cell_at 100 1 7 ∷ cell_at 101 1 8 ∷ cell_at 32 1 9 ∷ cs
+    cell_at 35 1 1 ∷ cell_at 105 1 2 ∷ cell_at 110 1 3 ∷ cell_at 99 1 4 ∷ cell_at 108 1 5 ∷ cell_at 117 1 6 ∷ cell_at 100 1 7
+    ∷ cell_at 101 1 8 ∷ cell_at 32 1 9 ∷ cs
 
 include_placed : (text : List ℕ) → joined false 1 1 (codes "#include " ++ text) ≡ include_cells (joined false 1 10 text)
 unfolding joined
 include_placed text = refl
 
 cut_include : (cs : List Cell) → scan [] false 0 (include_cells cs)
-    ≡ token_then (token_at (place_at 1 1) true false hash_kind) (token_then (token_at (place_at 1 2) false false include_kind) (scan (include_kind ∷ hash_kind ∷ []) true 0 cs))
+    ≡ token_then (token_at (place_at 1 1) true false hash_kind)
+    (token_then (token_at (place_at 1 2) false false include_kind) (scan (include_kind ∷ hash_kind ∷ []) true 0 cs))
 unfolding scan
 cut_include cs =
-    cut_step [] false (cell_at 35 1 1) (drop 1 (include_cells cs)) 0 (TokenPiece hash_kind) (hash_first (bytes_of (drop 3 (include_cells cs))))
+    cut_step [] false (cell_at 35 1 1) (drop 1 (include_cells cs)) 0 (TokenPiece hash_kind)
+    (hash_first (bytes_of (drop 3 (include_cells cs))))
     ∙ ap (token_then (token_at (place_at 1 1) true false hash_kind))
     (cut_step (hash_kind ∷ []) false (cell_at 105 1 2) (drop 2 (include_cells cs)) 6 (TokenPiece include_kind) (include_first (bytes_of cs))
     ∙ ap (token_then (token_at (place_at 1 2) false false include_kind))
@@ -202,7 +215,8 @@ header_text [] name is all = absurd cc
 header_text (b ∷ bs) name is all =
     ap outcome_of
     (ap (scan [] false 0) (placed_is (codes "#include " ++ (b ∷ bs)) ∙ include_placed (b ∷ bs)) ∙ cut_include (joined false 1 10 (b ∷ bs))
-    ∙ ap (λ c. token_then (token_at (place_at 1 1) true false hash_kind) (token_then (token_at (place_at 1 2) false false include_kind) c)) (cut_one (include_kind ∷ hash_kind ∷ []) true 1 10 b bs (k.HeaderName name) all is))
+    ∙ ap (λ c. token_then (token_at (place_at 1 1) true false hash_kind) (token_then (token_at (place_at 1 2) false false include_kind) c))
+    (cut_one (include_kind ∷ hash_kind ∷ []) true 1 10 b bs (k.HeaderName name) all is))
 
 reads_header : (text name : List ℕ) → spelled true text ≡ Some (TokenPiece (k.HeaderName name))
     → lexed (codes "#include " ++ text) ≡ Ok (include_tokens name)

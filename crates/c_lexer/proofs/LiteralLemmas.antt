@@ -11,17 +11,20 @@ use Rattle.c_lexer.specs.Runs.{first_character}
 use Rattle.c_lexer.proofs.Longest.{some_left}
 
 first_step : (offset : ℕ) (b : ℕ) (bs : List ℕ) (v : Bool) → (b == 92) ≡ v
-    → characters offset 0 (b ∷ bs) ≡ character offset (first_character (b ∷ bs)).1 ∷ characters (offset + (first_character (b ∷ bs)).0) 0 (drop (first_character (b ∷ bs)).0 (b ∷ bs))
+    → characters offset 0 (b ∷ bs) ≡ character offset (first_character (b ∷ bs)).1
+    ∷ characters (offset + (first_character (b ∷ bs)).0) 0 (drop (first_character (b ∷ bs)).0 (b ∷ bs))
 unfolding characters
 first_step offset b bs true e =
     let same : suc offset + (escape bs).0 ≡ offset + suc (escape bs).0 = omega arith in
-    rw e (ap (λ (cs : List Character). character offset (escape bs).1 ∷ cs) (characters_left (suc offset) (escape bs).0 bs ∙ ap (λ (o : ℕ). characters o 0 (drop (escape bs).0 bs)) same))
+    rw e (ap (λ (cs : List Character). character offset (escape bs).1 ∷ cs)
+    (characters_left (suc offset) (escape bs).0 bs ∙ ap (λ (o : ℕ). characters o 0 (drop (escape bs).0 bs)) same))
 first_step offset b bs false e =
     let same : suc offset ≡ offset + 1 = omega arith in
     rw e (ap (λ (o : ℕ). character offset (Some b) ∷ characters o 0 bs) same)
 
 pub first_of : (offset : ℕ) (bs : List ℕ) → 0 < length bs
-    → characters offset 0 bs ≡ character offset (first_character bs).1 ∷ characters (offset + (first_character bs).0) 0 (drop (first_character bs).0 bs)
+    → characters offset 0 bs ≡ character offset (first_character bs).1
+    ∷ characters (offset + (first_character bs).0) 0 (drop (first_character bs).0 bs)
 first_of offset [] lt = absurd (omega arith)
 first_of offset (b ∷ bs) lt = first_step offset b bs (b == 92) refl
 
@@ -88,7 +91,8 @@ pub constant_several : (body : List ℕ) (r : ℕ × Option ℕ) → 0 < length 
     → Refused LeftOutLiteral 0 ≡ constant_of (characters 1 0 body)
 constant_several body r lt e more =
     let more' : (first_character body).0 < length body = rw e at more in
-    sym (ap constant_of (first_of 1 body lt) ∙ two_or_more 1 (1 + (first_character body).0) (first_character body).1 (drop (first_character body).0 body) (some_left body (first_character body).0 more'))
+    sym (ap constant_of (first_of 1 body lt) ∙ two_or_more 1 (1 + (first_character body).0) (first_character body).1
+    (drop (first_character body).0 body) (some_left body (first_character body).0 more'))
 
 pub constant_one : (body : List ℕ) (r : ℕ × Option ℕ) (value : Option ℕ) → 0 < length body → r ≡ first_character body → length body ≤ r.0
     → r.1 ≡ value → one_character 1 value ≡ constant_of (characters 1 0 body)

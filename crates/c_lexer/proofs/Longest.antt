@@ -48,7 +48,8 @@ tells_end f (Some x) e = record { within = omega arith; is = e; longer = λ m lt
 pub longest_tells : {X : Type 0} (f : List ℕ → Option X) (bs : List ℕ) → LongestFront f bs (longest f bs)
 unfolding longest
 longest_tells f [] = tells_end f (f []) refl
-longest_tells f (b ∷ bs) = tells_further f b bs (f []) refl (longest (λ front. f (b ∷ front)) bs) (longest_tells (λ front. f (b ∷ front)) bs)
+longest_tells f (b ∷ bs) =
+    tells_further f b bs (f []) refl (longest (λ front. f (b ∷ front)) bs) (longest_tells (λ front. f (b ∷ front)) bs)
 
 -- ---- tests that agree, that take nothing, and that take the empty front alone
 
@@ -56,7 +57,8 @@ pub longest_same : {X : Type 0} (f g : List ℕ → Option X) → ((front : List
     → longest f bs ≡ longest g bs
 unfolding longest
 longest_same {X = X} f g e [] = ap (λ (o : Option X). option_map (λ x. (0, x)) o) (e [])
-longest_same f g e (b ∷ bs) = rw (e []) (ap (further (g [])) (longest_same (λ front. f (b ∷ front)) (λ front. g (b ∷ front)) (λ front. e (b ∷ front)) bs))
+longest_same f g e (b ∷ bs) =
+    rw (e []) (ap (further (g [])) (longest_same (λ front. f (b ∷ front)) (λ front. g (b ∷ front)) (λ front. e (b ∷ front)) bs))
 
 pub longest_none : {X : Type 0} (f : List ℕ → Option X) → ((front : List ℕ) → f front ≡ None) → (bs : List ℕ) → longest f bs ≡ None
 unfolding longest
@@ -102,12 +104,15 @@ after_none here None = refl
 after_none here (Some y) = refl
 
 run_step : {X : Type 0} (p : ℕ → Bool) (h : List ℕ → X) (g : List ℕ → Option X) (b : ℕ) (bs : List ℕ) (v : Bool) → p b ≡ v → EndsAt p g
-    → (p b ≡ true → longest (run_or p (λ r. h (b ∷ r)) (λ r. g (b ∷ r))) bs ≡ Some (after_run (prefix_len p bs) (h (b ∷ take (prefix_len p bs) bs)) (past_run (λ r. g (b ∷ r)) (prefix_len p bs) bs)))
-    → longest (run_or p h g) (b ∷ bs) ≡ Some (after_run (prefix_len p (b ∷ bs)) (h (take (prefix_len p (b ∷ bs)) (b ∷ bs))) (past_run g (prefix_len p (b ∷ bs)) (b ∷ bs)))
+    → (p b ≡ true → longest (run_or p (λ r. h (b ∷ r)) (λ r. g (b ∷ r))) bs
+    ≡ Some (after_run (prefix_len p bs) (h (b ∷ take (prefix_len p bs) bs)) (past_run (λ r. g (b ∷ r)) (prefix_len p bs) bs)))
+    → longest (run_or p h g) (b ∷ bs) ≡ Some (after_run (prefix_len p (b ∷ bs)) (h (take (prefix_len p (b ∷ bs)) (b ∷ bs)))
+    (past_run g (prefix_len p (b ∷ bs)) (b ∷ bs)))
 unfolding longest
 run_step p h g b bs true e ends so =
     let one : 1 + prefix_len p bs ≡ suc (prefix_len p bs) = omega arith in
-    ap (further (Some (h []))) (longest_same (λ front. run_or p h g (b ∷ front)) (run_or p (λ r. h (b ∷ r)) (λ r. g (b ∷ r))) (λ front. rw e refl) bs ∙ so e)
+    ap (further (Some (h []))) (longest_same (λ front. run_or p h g (b ∷ front)) (run_or p (λ r. h (b ∷ r)) (λ r. g (b ∷ r)))
+    (λ front. rw e refl) bs ∙ so e)
     ∙ after_more (h []) (prefix_len p bs) (h (b ∷ take (prefix_len p bs) bs)) (past_run (λ r. g (b ∷ r)) (prefix_len p bs) bs)
     ∙ rw (e, one) refl
 run_step p h g b bs false e ends so =
@@ -122,7 +127,8 @@ pub longest_run : {X : Type 0} (p : ℕ → Bool) (h : List ℕ → X) (g : List
     → longest (run_or p h g) bs ≡ Some (after_run (prefix_len p bs) (h (take (prefix_len p bs) bs)) (past_run g (prefix_len p bs) bs))
 unfolding longest
 longest_run p h g [] ends = refl
-longest_run p h g (b ∷ bs) ends = run_step p h g b bs (p b) refl ends (λ e. longest_run p (λ r. h (b ∷ r)) (λ r. g (b ∷ r)) bs (ends_more p g b e ends))
+longest_run p h g (b ∷ bs) ends =
+    run_step p h g b bs (p b) refl ends (λ e. longest_run p (λ r. h (b ∷ r)) (λ r. g (b ∷ r)) bs (ends_more p g b e ends))
 
 -- a run alone
 pub longest_all : {X : Type 0} (p : ℕ → Bool) (h : List ℕ → X) (bs : List ℕ)
@@ -146,7 +152,8 @@ number_step : {X : Type 0} (before : ℕ) (h : List ℕ → X) (b : ℕ) (bs : L
     → longest (number_run before h) (b ∷ bs) ≡ Some (number_len before (b ∷ bs), h (take (number_len before (b ∷ bs)) (b ∷ bs)))
 unfolding longest number_len
 number_step before h b bs true e so =
-    ap (further (Some (h []))) (longest_same (λ front. number_run before h (b ∷ front)) (number_run b (λ r. h (b ∷ r))) (λ front. rw e refl) bs ∙ so) ∙ rw e refl
+    ap (further (Some (h []))) (longest_same (λ front. number_run before h (b ∷ front)) (number_run b (λ r. h (b ∷ r)))
+    (λ front. rw e refl) bs ∙ so) ∙ rw e refl
 number_step before h b bs false e so =
     ap (further (Some (h []))) (longest_none (λ front. number_run before h (b ∷ front)) (λ front. rw e refl) bs) ∙ rw e refl
 
@@ -163,24 +170,33 @@ shaped of bs r = (r.0, of r.1 (take r.0 bs))
 
 literal_step : {X : Type 0} (close : ℕ) (escapes escaped : Bool) (of : Shape → List ℕ → X) (b : ℕ) (bs : List ℕ) (u v : Bool)
     → (b == 10) ≡ u → (b == close && not escaped) ≡ v
-    → longest (λ front. option_map (λ s. of s (b ∷ front)) (shape close escapes (escapes && b == 92 && not escaped) front)) bs ≡ Some (shaped (λ s r. of s (b ∷ r)) bs (literal_end close escapes (escapes && b == 92 && not escaped) bs))
-    → longest (λ front. option_map (λ s. of s front) (shape close escapes escaped front)) (b ∷ bs) ≡ Some (shaped of (b ∷ bs) (literal_end close escapes escaped (b ∷ bs)))
+    → longest (λ front. option_map (λ s. of s (b ∷ front)) (shape close escapes (escapes && b == 92 && not escaped) front)) bs
+    ≡ Some (shaped (λ s r. of s (b ∷ r)) bs (literal_end close escapes (escapes && b == 92 && not escaped) bs))
+    → longest (λ front. option_map (λ s. of s front) (shape close escapes escaped front)) (b ∷ bs)
+    ≡ Some (shaped of (b ∷ bs) (literal_end close escapes escaped (b ∷ bs)))
 unfolding longest shape literal_end
 literal_step close escapes escaped of b bs true v e f so =
-    ap (further (Some (of unclosed []))) (longest_none (λ front. option_map (λ s. of s (b ∷ front)) (shape close escapes escaped (b ∷ front))) (λ front. rw e refl) bs) ∙ rw e refl
+    ap (further (Some (of unclosed []))) (longest_none
+    (λ front. option_map (λ s. of s (b ∷ front)) (shape close escapes escaped (b ∷ front))) (λ front. rw e refl) bs) ∙ rw e refl
 literal_step close escapes escaped of b bs false true e f so =
-    ap (further (Some (of unclosed []))) (longest_first (λ front. option_map (λ s. of s (b ∷ front)) (shape close escapes escaped (b ∷ front))) (λ c front. rw (e, f) refl) bs) ∙ rw (e, f) refl
+    ap (further (Some (of unclosed []))) (longest_first
+    (λ front. option_map (λ s. of s (b ∷ front)) (shape close escapes escaped (b ∷ front))) (λ c front. rw (e, f) refl) bs)
+    ∙ rw (e, f) refl
 literal_step close escapes escaped of b bs false false e f so =
     ap (further (Some (of unclosed [])))
-    (longest_same (λ front. option_map (λ s. of s (b ∷ front)) (shape close escapes escaped (b ∷ front))) (λ front. option_map (λ s. of s (b ∷ front)) (shape close escapes (escapes && b == 92 && not escaped) front)) (λ front. rw (e, f) refl) bs ∙ so)
+    (longest_same (λ front. option_map (λ s. of s (b ∷ front)) (shape close escapes escaped (b ∷ front)))
+    (λ front. option_map (λ s. of s (b ∷ front)) (shape close escapes (escapes && b == 92 && not escaped) front))
+    (λ front. rw (e, f) refl) bs ∙ so)
     ∙ rw (e, f) refl
 
 pub longest_literal : {X : Type 0} (close : ℕ) (escapes escaped : Bool) (of : Shape → List ℕ → X) (bs : List ℕ)
-    → longest (λ front. option_map (λ s. of s front) (shape close escapes escaped front)) bs ≡ Some (shaped of bs (literal_end close escapes escaped bs))
+    → longest (λ front. option_map (λ s. of s front) (shape close escapes escaped front)) bs
+    ≡ Some (shaped of bs (literal_end close escapes escaped bs))
 unfolding longest shape literal_end
 longest_literal close escapes escaped of [] = refl
 longest_literal close escapes escaped of (b ∷ bs) =
-    literal_step close escapes escaped of b bs (b == 10) (b == close && not escaped) refl refl (longest_literal close escapes (escapes && b == 92 && not escaped) (λ s r. of s (b ∷ r)) bs)
+    literal_step close escapes escaped of b bs (b == 10) (b == close && not escaped) refl refl
+    (longest_literal close escapes (escapes && b == 92 && not escaped) (λ s r. of s (b ∷ r)) bs)
 
 -- ---- comments
 
@@ -194,7 +210,8 @@ unfolding longest comment comment_end
 comment_step star b bs true e so =
     ap (further (Some (Refused OpenComment 0))) (longest_first (λ front. comment star (b ∷ front)) (λ c front. rw e refl) bs) ∙ rw e refl
 comment_step star b bs false e so =
-    ap (further (Some (Refused OpenComment 0))) (longest_same (λ front. comment star (b ∷ front)) (comment (b == 42)) (λ front. rw e refl) bs ∙ so) ∙ rw e refl
+    ap (further (Some (Refused OpenComment 0))) (longest_same (λ front. comment star (b ∷ front)) (comment (b == 42))
+    (λ front. rw e refl) bs ∙ so) ∙ rw e refl
 
 pub longest_comment : (star : Bool) (bs : List ℕ) → longest (comment star) bs ≡ Some (commented (comment_end star bs))
 unfolding longest comment comment_end

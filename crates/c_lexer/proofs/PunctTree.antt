@@ -37,16 +37,23 @@ picked text (r ∷ rs) last a p t so found =
     pick_step text r.0 r.1 p (pick rs last a) a (a == r.0) refl parts.0 (picked text rs last a p parts.1 so) found
 
 abbrev operators : List (ℕ × Punct)
-operators = (43, p.Plus) ∷ (45, p.Minus) ∷ (42, p.Star) ∷ (47, p.Slash) ∷ (37, p.Percent) ∷ (38, p.Ampersand) ∷ (124, p.Bar) ∷ (94, p.Caret) ∷ (126, p.Tilde) ∷ (33, p.Exclamation) ∷ (60, p.Less) ∷ (62, p.Greater) ∷ (61, p.Assign) ∷ []
+operators =
+    (43, p.Plus) ∷ (45, p.Minus) ∷ (42, p.Star) ∷ (47, p.Slash) ∷ (37, p.Percent) ∷ (38, p.Ampersand) ∷ (124, p.Bar) ∷ (94, p.Caret)
+    ∷ (126, p.Tilde) ∷ (33, p.Exclamation) ∷ (60, p.Less) ∷ (62, p.Greater) ∷ (61, p.Assign) ∷ []
 
 abbrev separators : List (ℕ × Punct)
-separators = (91, p.LeftBracket) ∷ (93, p.RightBracket) ∷ (40, p.LeftParen) ∷ (41, p.RightParen) ∷ (123, p.LeftBrace) ∷ (125, p.RightBrace) ∷ (46, p.Dot) ∷ (44, p.Comma) ∷ (59, p.Semicolon) ∷ (58, p.Colon) ∷ (63, p.Question) ∷ (35, p.Hash) ∷ []
+separators =
+    (91, p.LeftBracket) ∷ (93, p.RightBracket) ∷ (40, p.LeftParen) ∷ (41, p.RightParen) ∷ (123, p.LeftBrace) ∷ (125, p.RightBrace)
+    ∷ (46, p.Dot) ∷ (44, p.Comma) ∷ (59, p.Semicolon) ∷ (58, p.Colon) ∷ (63, p.Question) ∷ (35, p.Hash) ∷ []
 
 abbrev assigns : List (ℕ × Punct)
-assigns = (43, p.PlusAssign) ∷ (45, p.MinusAssign) ∷ (42, p.StarAssign) ∷ (47, p.SlashAssign) ∷ (37, p.PercentAssign) ∷ (38, p.AmpersandAssign) ∷ (124, p.BarAssign) ∷ (94, p.CaretAssign) ∷ (33, p.NotEqual) ∷ (60, p.LessEqual) ∷ (62, p.GreaterEqual) ∷ (61, p.EqualEqual) ∷ []
+assigns =
+    (43, p.PlusAssign) ∷ (45, p.MinusAssign) ∷ (42, p.StarAssign) ∷ (47, p.SlashAssign) ∷ (37, p.PercentAssign) ∷ (38, p.AmpersandAssign)
+    ∷ (124, p.BarAssign) ∷ (94, p.CaretAssign) ∷ (33, p.NotEqual) ∷ (60, p.LessEqual) ∷ (62, p.GreaterEqual) ∷ (61, p.EqualEqual) ∷ []
 
 abbrev doubles : List (ℕ × Punct)
-doubles = (43, p.PlusPlus) ∷ (45, p.MinusMinus) ∷ (38, p.AndAnd) ∷ (124, p.OrOr) ∷ (60, p.ShiftLeft) ∷ (62, p.ShiftRight) ∷ (35, p.HashHash) ∷ []
+doubles =
+    (43, p.PlusPlus) ∷ (45, p.MinusMinus) ∷ (38, p.AndAnd) ∷ (124, p.OrOr) ∷ (60, p.ShiftLeft) ∷ (62, p.ShiftRight) ∷ (35, p.HashHash) ∷ []
 
 operator_text : (a : ℕ) (punct : Punct) → operator a ≡ Some punct → a ∷ [] ≡ punct_spelling punct
 unfolding operator

@@ -12,7 +12,10 @@ unequal false never = refl
 
 pub line_is : (bs : List ℕ) (r : Option ℕ) → IsFirstByte (is_byte 10) bs r
     → unwrap_or r (length bs) ≡ prefix_len (λ b. not (is_newline b)) bs
-line_is bs None none = sym (prefix_len_is (λ b. not (is_newline b)) bs (length bs) 0 (omega arith) (λ k lt. unequal (get_or bs k 0 == 10) (none k (omega arith) lt)) (λ lt. absurd (omega arith)))
+line_is bs None none =
+    sym (prefix_len_is (λ b. not (is_newline b)) bs (length bs) 0 (omega arith)
+    (λ k lt. unequal (get_or bs k 0 == 10) (none k (omega arith) lt)) (λ lt. absurd (omega arith)))
 line_is bs (Some n) found =
     let before = found.0 in
-    sym (prefix_len_is (λ b. not (is_newline b)) bs n 0 (let h = before.high in omega arith) (λ k lt. unequal (get_or bs k 0 == 10) (before.before k (omega arith) lt)) (λ lt. ap not found.1))
+    sym (prefix_len_is (λ b. not (is_newline b)) bs n 0 (let h = before.high in omega arith)
+    (λ k lt. unequal (get_or bs k 0 == 10) (before.before k (omega arith) lt)) (λ lt. ap not found.1))

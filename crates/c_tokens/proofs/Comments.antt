@@ -91,10 +91,19 @@ found_step a b rest behind true e so some =
     let one : 42 ≡ a = sym (eqb-true a 42 parts.0) in
     let two : 47 ≡ b = sym (eqb-true b 47 parts.1) in
     let same : behind ≡ rest = cc in
-    record { before = []; at = ap (λ (xs : List ℕ). 42 ∷ 47 ∷ xs) same ∙ ap (λ (n : ℕ). n ∷ 47 ∷ rest) one ∙ ap (λ (n : ℕ). a ∷ n ∷ rest) two; first = refl }
+    record {
+      before = [];
+      at = ap (λ (xs : List ℕ). 42 ∷ 47 ∷ xs) same ∙ ap (λ (n : ℕ). n ∷ 47 ∷ rest) one
+          ∙ ap (λ (n : ℕ). a ∷ n ∷ rest) two;
+      first = refl;
+    }
 found_step a b rest behind false e so some =
     let more = so (rw e at some) in
-    record { before = a ∷ more.before; at = ap (λ (xs : List ℕ). a ∷ xs) more.at; first = further a b rest behind e more.before more.at more.first }
+    record {
+      before = a ∷ more.before;
+      at = ap (λ (xs : List ℕ). a ∷ xs) more.at;
+      first = further a b rest behind e more.before more.at more.first;
+    }
 
 found : (text behind : List ℕ) → behind_end text ≡ Some behind → Found text behind
 found [] behind some = absurd cc
@@ -119,7 +128,8 @@ end_is (a ∷ c ∷ cs) none = end_step a c (cs ++ 42 ∷ []) (cs ++ 42 ∷ 47 �
 
 closed_from : (bs : List ℕ) (o : Option (List ℕ)) → behind_end bs ≡ o → decided o ≡ Some Space → IsClosed bs
 closed_from bs None e is = absurd cc
-closed_from bs (Some []) e is = let f = found bs [] e in record { text = f.before; ends = f.at; first = no_end (f.before ++ 42 ∷ []) f.first }
+closed_from bs (Some []) e is =
+    let f = found bs [] e in record { text = f.before; ends = f.at; first = no_end (f.before ++ 42 ∷ []) f.first }
 closed_from bs (Some (c ∷ cs)) e is = absurd cc
 
 space_from : (bs : List ℕ) → IsClosed bs → decided (behind_end bs) ≡ Some Space
@@ -134,10 +144,14 @@ open_from bs (Some (c ∷ cs)) e is = absurd cc
 
 pub closed_comment : (after_include : Bool) (bs : List ℕ) → spelled after_include (47 ∷ 42 ∷ bs) ≡ Some Space ↔ IsClosed bs
 unfolding spelled
-closed_comment after_include bs = (λ is. closed_from bs (behind_end bs) refl (sym (comment_is false bs) ∙ is), λ is. comment_is false bs ∙ space_from bs is)
+closed_comment after_include bs =
+    (λ is. closed_from bs (behind_end bs) refl (sym (comment_is false bs) ∙ is), λ is. comment_is false bs ∙ space_from bs is)
 
 pub open_comment : (after_include : Bool) (bs : List ℕ)
     → spelled after_include (47 ∷ 42 ∷ bs) ≡ Some (Refused OpenComment 0) ↔ HasNoEnd bs
 unfolding spelled
-open_comment after_include bs =
-    (λ is. open_from bs (behind_end bs) refl (sym (comment_is false bs) ∙ is), λ never. comment_is false bs ∙ ap decided (none_from bs (behind_end bs) refl never))
+open_comment after_include bs = (
+  λ is. open_from bs (behind_end bs) refl (sym (comment_is false bs) ∙ is),
+  λ never. comment_is false bs
+      ∙ ap decided (none_from bs (behind_end bs) refl never),
+)

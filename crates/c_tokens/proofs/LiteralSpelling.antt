@@ -25,7 +25,8 @@ data Written (b : ℕ) : Type 0 where
 written_as : (b : ℕ) (v w : Bool) → (b == 34 || b == 39 || b == 92) ≡ v → (nat_le 32 b && nat_le b 126) ≡ w → Written b
 unfolding escaped
 written_as b true w e f = behind e (rw e refl)
-written_as b false true e f = itself (grind (arith, nat_tests)) (grind (arith, nat_tests)) (grind (arith, nat_tests)) (grind (arith, nat_tests)) (rw (e, f) refl)
+written_as b false true e f =
+    itself (grind (arith, nat_tests)) (grind (arith, nat_tests)) (grind (arith, nat_tests)) (grind (arith, nat_tests)) (rw (e, f) refl)
 written_as b false false e f = octal (rw (e, f) refl)
 
 written : (b : ℕ) → Written b
@@ -64,7 +65,8 @@ shape_byte close b rest q (octal w) =
     rw w
     (shape_backslash close (octal_digit (b / 64) ∷ octal_digit (b / 8 % 8) ∷ octal_digit (b % 8) ∷ rest) q.backslash
     ∙ shape_escaped close (octal_digit (b / 64)) (octal_digit (b / 8 % 8) ∷ octal_digit (b % 8) ∷ rest) (not_ten (b / 64))
-    ∙ shape_plain close (octal_digit (b / 8 % 8)) (octal_digit (b % 8) ∷ rest) (not_ten (b / 8 % 8)) (q.digit (b / 8 % 8)) (not_back (b / 8 % 8) (omega arith))
+    ∙ shape_plain close (octal_digit (b / 8 % 8)) (octal_digit (b % 8) ∷ rest) (not_ten (b / 8 % 8)) (q.digit (b / 8 % 8))
+    (not_back (b / 8 % 8) (omega arith))
     ∙ shape_plain close (octal_digit (b % 8)) rest (not_ten (b % 8)) (q.digit (b % 8)) (not_back (b % 8) (omega arith)))
   where
     not_ten : (d : ℕ) → (octal_digit d == 10) ≡ false
@@ -104,7 +106,8 @@ byte_of a b c n la lb lc e lt =
 escape_octal : (a b c n : ℕ) (rest : List ℕ) → a < 8 → b < 8 → c < 8 → (a * 8 + b) * 8 + c ≡ n → n < 256
     → escape (octal_digit a ∷ octal_digit b ∷ octal_digit c ∷ rest) ≡ (3, Some n)
 unfolding escape
-escape_octal a b c n rest la lb lc e lt = rw (octal_digit_passes a la, octal_digit_passes b lb, octal_digit_passes c lc) (ap (λ v. (3, v)) (byte_of a b c n la lb lc e lt))
+escape_octal a b c n rest la lb lc e lt =
+    rw (octal_digit_passes a la, octal_digit_passes b lb, octal_digit_passes c lc) (ap (λ v. (3, v)) (byte_of a b c n la lb lc e lt))
 
 -- a character that is this byte, and the characters behind it
 abbrev then_at : ℕ → ℕ → ℕ → List ℕ → List Character
@@ -136,7 +139,8 @@ unfolding characters values
 values_all offset [] are = refl
 values_all offset (b ∷ bs) are =
     ap values (character_byte offset b (flat_map escaped bs) are.0 (written b))
-    ∙ value_byte offset b (characters (offset + length (escaped b)) 0 (flat_map escaped bs)) bs (values_all (offset + length (escaped b)) bs are.1)
+    ∙ value_byte offset b (characters (offset + length (escaped b)) 0 (flat_map escaped bs)) bs
+    (values_all (offset + length (escaped b)) bs are.1)
 
 -- ---- strings, constants and header names
 

@@ -120,8 +120,10 @@ decimal_number : (value d : ℕ) (ds text : List ℕ) (unsigned : Bool) (longs :
 unfolding number
 decimal_number value d ds text unsigned longs first all e small s =
     let parts = and_parts (is_digit d 10) (all_digits 10 ds) all in
-    spelled_number d (ds ++ text) (digit_is d 10 parts.0 (omega arith)) (both_words ds text (words_are 10 ds parts.1 (omega arith)) s.letters)
-    ∙ rw (not_hexadecimal d (ds ++ text) first, first) (ap (λ p. Some p) (integer_is 10 value (d ∷ ds) text unsigned longs all (omega arith) e small s.decimal s.says))
+    spelled_number d (ds ++ text) (digit_is d 10 parts.0 (omega arith))
+    (both_words ds text (words_are 10 ds parts.1 (omega arith)) s.letters)
+    ∙ rw (not_hexadecimal d (ds ++ text) first, first)
+    (ap (λ p. Some p) (integer_is 10 value (d ∷ ds) text unsigned longs all (omega arith) e small s.decimal s.says))
 
 octal_plain : (ds text : List ℕ) → all_digits 8 ds ≡ true → is_hexadecimal (48 ∷ text) ≡ false → is_hexadecimal (48 ∷ ds ++ text) ≡ false
 octal_plain [] text all e = e
@@ -138,7 +140,8 @@ octal_number : (value : ℕ) (ds text : List ℕ) (unsigned : Bool) (longs : ℕ
 unfolding number
 octal_number value ds text unsigned longs all e small s =
     spelled_number 48 (ds ++ text) refl (both_words ds text (words_are 8 ds all (omega arith)) s.letters)
-    ∙ rw (octal_plain ds text all s.plain) (ap (λ p. Some p) (integer_is 8 value (48 ∷ ds) text unsigned longs all (omega arith) e small s.octal s.says))
+    ∙ rw (octal_plain ds text all s.plain) (ap (λ p. Some p)
+    (integer_is 8 value (48 ∷ ds) text unsigned longs all (omega arith) e small s.octal s.says))
 
 -- ---- the digits that are written
 
@@ -160,7 +163,8 @@ decimal_text : (value : ℕ) (ds text : List ℕ) (unsigned : Bool) (longs : ℕ
     → digits_value 10 ds ≡ value → value < 2 ^ 64 → IsSuffix text unsigned longs
     → spelled false (ds ++ text) ≡ Some (Token (k.Number value (record { decimal = true; unsigned = unsigned; longs = longs })))
 decimal_text value [] text unsigned longs some first all e small s = absurd (omega arith)
-decimal_text value (d ∷ ds) text unsigned longs some first all e small s = decimal_number value d ds text unsigned longs (grind (arith, nat_tests)) all e small s
+decimal_text value (d ∷ ds) text unsigned longs some first all e small s =
+    decimal_number value d ds text unsigned longs (grind (arith, nat_tests)) all e small s
 
 pub spells_number : (value : ℕ) (kind : NumberKind) → value < 2 ^ 64 → kind.longs ≤ 2 → (kind.decimal ≡ true → 0 < value)
     → spelled false (number_text value kind) ≡ Some (Token (k.Number value kind))
@@ -169,7 +173,10 @@ spells_number value kind small longs positive = by_base kind.decimal refl
     by_base : (v : Bool) → kind.decimal ≡ v → spelled false (number_text value kind) ≡ Some (Token (k.Number value kind))
     by_base true e =
         let numeral = decimal_is_IsNumeral value small in
-        rw e (decimal_text value (decimal value) (suffix_text kind.unsigned kind.longs) kind.unsigned kind.longs numeral.0.0 (first_decimal value (positive e) small) (from_all 10 (decimal value) numeral.0.1) numeral.1 small (suffixes kind.unsigned kind.longs longs))
+        rw e (decimal_text value (decimal value) (suffix_text kind.unsigned kind.longs) kind.unsigned kind.longs numeral.0.0
+        (first_decimal value (positive e) small) (from_all 10 (decimal value) numeral.0.1) numeral.1 small
+        (suffixes kind.unsigned kind.longs longs))
     by_base false e =
-        rw e (octal_number value (map octal_digit (digits_of 8 value)) (suffix_text kind.unsigned kind.longs) kind.unsigned kind.longs (octal_all (digits_of 8 value) (all_below_base_digits_of 8 value (omega arith))) (octal_value value) small
+        rw e (octal_number value (map octal_digit (digits_of 8 value)) (suffix_text kind.unsigned kind.longs) kind.unsigned kind.longs
+        (octal_all (digits_of 8 value) (all_below_base_digits_of 8 value (omega arith))) (octal_value value) small
         (suffixes kind.unsigned kind.longs longs))

@@ -19,5 +19,6 @@ pub octal_step : (n m : ℕ) (digits : List ℕ) → 0 < n → map octal_digit (
 octal_step n m digits positive owed =
     ap (λ (r : List ℕ). map octal_digit (digits_of 8 (n / 8)) ++ r) (reverse-append digits (octal_digit (n % 8) ∷ []))
     ∙ sym (append_assoc (map octal_digit (digits_of 8 (n / 8))) (octal_digit (n % 8) ∷ []) (reverse digits))
-    ∙ ap (λ (xs : List ℕ). xs ++ reverse digits) (sym (ap (map octal_digit) (digits_of_step 8 n (omega arith) positive) ∙ map-append octal_digit (digits_of 8 (n / 8)) (n % 8 ∷ [])))
+    ∙ ap (λ (xs : List ℕ). xs ++ reverse digits) (sym (ap (map octal_digit) (digits_of_step 8 n (omega arith) positive)
+    ∙ map-append octal_digit (digits_of 8 (n / 8)) (n % 8 ∷ [])))
     ∙ owed

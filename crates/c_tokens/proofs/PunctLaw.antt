@@ -22,7 +22,8 @@ found_step text first punct rest false e so found = so (rw e at found)
 
 found_text : (text : List ℕ) (ps : List Punct) (punct : Punct) → find (spells text) ps ≡ Some punct → text ≡ punct_spelling punct
 found_text text [] punct found = absurd cc
-found_text text (first ∷ ps) punct found = found_step text first punct (find (spells text) ps) (spells text first) refl (found_text text ps punct) found
+found_text text (first ∷ ps) punct found =
+    found_step text first punct (find (spells text) ps) (spells text first) refl (found_text text ps punct) found
 
 pub punct_text : (text : List ℕ) (punct : Punct) → punctuator text ≡ Some punct → text ≡ punct_spelling punct
 unfolding punctuator
@@ -38,5 +39,7 @@ pub one_spelling : (a b : Punct) → punct_spelling a ≡ punct_spelling b → a
 one_spelling a b e = let same : Some a ≡ Some b = sym (punct_back a) ∙ ap punctuator e ∙ punct_back b in cc
 
 pub same_punct_decides : (a b : Punct) → Decides (same_punct a b) (a ≡ b)
-same_punct_decides a b =
-    (λ e. one_spelling a b ((bytes_eq-Decides (punct_spelling a) (punct_spelling b)).0 e), λ e. (bytes_eq-Decides (punct_spelling a) (punct_spelling b)).1 (ap punct_spelling e))
+same_punct_decides a b = (
+  λ e. one_spelling a b ((bytes_eq-Decides (punct_spelling a) (punct_spelling b)).0 e),
+  λ e. (bytes_eq-Decides (punct_spelling a) (punct_spelling b)).1 (ap punct_spelling e),
+)

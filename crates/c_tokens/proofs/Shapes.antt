@@ -11,12 +11,15 @@ some_shape s t e = cc
 
 module _ (quote : ℕ) where
   abbrev Reads : List ℕ → Type 0
-  Reads bs = ((s : Shape) → shape quote true false bs ≡ Some s → HasShape quote s bs) × ((s : Shape) → shape quote true true bs ≡ Some s → HasShape quote s (92 ∷ bs))
+  Reads bs =
+      ((s : Shape) → shape quote true false bs ≡ Some s → HasShape quote s bs)
+      × ((s : Shape) → shape quote true true bs ≡ Some s → HasShape quote s (92 ∷ bs))
 
   at_quote : (b : ℕ) (bs : List ℕ) (s : Shape) → (b == quote) ≡ true → (if is_empty bs then Some closed else None) ≡ Some s
       → HasShape quote s (b ∷ bs)
   at_quote b [] s e is =
-      subst (λ t. HasShape quote t (b ∷ [])) (some_shape closed s is) (subst (λ (n : ℕ). HasShape quote closed (n ∷ [])) (sym (eqb-true b quote e)) ends)
+      subst (λ t. HasShape quote t (b ∷ [])) (some_shape closed s is)
+      (subst (λ (n : ℕ). HasShape quote closed (n ∷ [])) (sym (eqb-true b quote e)) ends)
   at_quote b (c ∷ cs) s e is = absurd cc
 
   at_byte : (b : ℕ) (bs : List ℕ) (s : Shape) (u v w : Bool) → (b == 10) ≡ u → (b == quote) ≡ v → (b == 92) ≡ w → Reads bs
@@ -40,7 +43,10 @@ module _ (quote : ℕ) where
     λ s is. subst (λ t. HasShape quote t []) (some_shape unclosed s is) runs_out,
     λ s is. subst (λ t. HasShape quote t (92 ∷ [])) (some_shape unclosed s is) backslash_last,
   )
-  reads (b ∷ bs) = (λ s is. at_byte b bs s (b == 10) (b == quote) (b == 92) refl refl refl (reads bs) is, λ s is. at_escaped b bs s (b == 10) refl (reads bs) is)
+  reads (b ∷ bs) = (
+    λ s is. at_byte b bs s (b == 10) (b == quote) (b == 92) refl refl refl (reads bs) is,
+    λ s is. at_escaped b bs s (b == 10) refl (reads bs) is,
+  )
 
   gives : {s : Shape} {bs : List ℕ} → IsQuote quote → HasShape quote s bs → shape quote true false bs ≡ Some s
   unfolding shape

@@ -50,8 +50,10 @@ word_facts : (b : ℕ) (bs : List ℕ) (kind : TokenKind) (v w : Bool) → list_
     → begins_name b ≡ true → word b bs ≡ Some (Token kind) → Facts (b ∷ bs) kind
 word_facts b bs kind true w e f letter is =
     let is' : Some (Token (k.Name (b ∷ bs))) ≡ Some (Token kind) = rw e at is in
-    facts_at (b ∷ bs) (k.Name (b ∷ bs)) kind (same_kind (k.Name (b ∷ bs)) kind is') (record { lexed = rw letter e; line = rw (letter_on b letter) (words_on bs e) })
-word_facts b bs kind false true e f letter is = let no_token : Some (Refused LeftOutLiteral 0) ≡ Some (Token kind) = rw (e, f) at is in absurd cc
+    facts_at (b ∷ bs) (k.Name (b ∷ bs)) kind (same_kind (k.Name (b ∷ bs)) kind is')
+    (record { lexed = rw letter e; line = rw (letter_on b letter) (words_on bs e) })
+word_facts b bs kind false true e f letter is =
+    let no_token : Some (Refused LeftOutLiteral 0) ≡ Some (Token kind) = rw (e, f) at is in absurd cc
 word_facts b bs kind false false e f letter is = let nothing : None ≡ Some (Token kind) = rw (e, f) at is in absurd cc
 
 -- ---- punctuators
@@ -64,7 +66,8 @@ punct_found : (text : List ℕ) (kind : TokenKind) (o : Option Punct) → punctu
     → option_map (λ p. Token (k.Punct p)) o ≡ Some (Token kind) → Facts text kind
 punct_found text kind None e is = absurd cc
 punct_found text kind (Some punct) e is =
-    facts_at text (k.Punct punct) kind (same_kind (k.Punct punct) kind is) (record { lexed = tt; line = ap on_line (punct_text text punct e) ∙ spelling_on punct })
+    facts_at text (k.Punct punct) kind (same_kind (k.Punct punct) kind is)
+    (record { lexed = tt; line = ap on_line (punct_text text punct e) ∙ spelling_on punct })
 
 punct_facts : (text : List ℕ) (kind : TokenKind) → punct_piece text ≡ Some (Token kind) → Facts text kind
 punct_facts text kind is = punct_found text kind (punctuator text) refl is
@@ -122,10 +125,14 @@ suffix_none s is = absurd cc
 suffix_longs : (text : List ℕ) (s : Bool × ℕ) → suffix_of text ≡ Some s → s.1 ≤ 2
 unfolding suffix_of
 suffix_longs [] s is = suffix_pick true false 0 None s (omega arith) (suffix_none s) is
-suffix_longs (a ∷ []) s is = suffix_pick (is_u a) true 0 _ s (omega arith) (suffix_pick (is_l a) false 1 None s (omega arith) (suffix_none s)) is
+suffix_longs (a ∷ []) s is =
+    suffix_pick (is_u a) true 0 _ s (omega arith) (suffix_pick (is_l a) false 1 None s (omega arith) (suffix_none s)) is
 suffix_longs (a ∷ b ∷ []) s is =
-    suffix_pick (is_u a && is_l b) true 1 _ s (omega arith) (suffix_pick (is_l a && is_u b) true 1 _ s (omega arith) (suffix_pick (is_ll a b) false 2 None s (omega arith) (suffix_none s))) is
-suffix_longs (a ∷ b ∷ c ∷ []) s is = suffix_pick (is_u a && is_ll b c) true 2 _ s (omega arith) (suffix_pick (is_ll a b && is_u c) true 2 None s (omega arith) (suffix_none s)) is
+    suffix_pick (is_u a && is_l b) true 1 _ s (omega arith)
+    (suffix_pick (is_l a && is_u b) true 1 _ s (omega arith) (suffix_pick (is_ll a b) false 2 None s (omega arith) (suffix_none s))) is
+suffix_longs (a ∷ b ∷ c ∷ []) s is =
+    suffix_pick (is_u a && is_ll b c) true 2 _ s (omega arith)
+    (suffix_pick (is_ll a b && is_u c) true 2 None s (omega arith) (suffix_none s)) is
 suffix_longs (a ∷ b ∷ c ∷ d ∷ ds) s is = absurd cc
 
 digits_grow : (n : ℕ) (ds : List ℕ) → n ≤ digits_value_after 10 n ds
@@ -159,23 +166,29 @@ integer_step : (base : ℕ) (digits text : List ℕ) (s : Bool × ℕ) (kind : T
     → nat_lt (digits_value base digits) (2 ^ 64) ≡ w → suffix_of text ≡ Some s
     → ((base == 10) ≡ true → is_empty digits ≡ false → 0 < digits_value base digits) → integer base digits (Some s) ≡ Token kind
     → IsLexedKind kind
-integer_step base digits text s kind true w e f suffix pos is = let no_token : Refused LeftOutLiteral 0 ≡ Token kind = rw e at is in absurd cc
+integer_step base digits text s kind true w e f suffix pos is =
+    let no_token : Refused LeftOutLiteral 0 ≡ Token kind = rw e at is in absurd cc
 integer_step base digits text s kind false true e f suffix pos is =
     let is' : Token (k.Number (digits_value base digits) (number_kind base s)) ≡ Token kind = rw (e, f) at is in
-    lexed_at (k.Number (digits_value base digits) (number_kind base s)) kind (token_kind (k.Number (digits_value base digits) (number_kind base s)) kind is')
+    lexed_at (k.Number (digits_value base digits) (number_kind base s)) kind
+    (token_kind (k.Number (digits_value base digits) (number_kind base s)) kind is')
     (ltb-true (digits_value base digits) (2 ^ 64) f, suffix_longs text s suffix, λ t. pos t e)
-integer_step base digits text s kind false false e f suffix pos is = let no_token : Refused BigNumber 0 ≡ Token kind = rw (e, f) at is in absurd cc
+integer_step base digits text s kind false false e f suffix pos is =
+    let no_token : Refused BigNumber 0 ≡ Token kind = rw (e, f) at is in absurd cc
 
 integer_facts : (base : ℕ) (digits text : List ℕ) (o : Option (Bool × ℕ)) (kind : TokenKind) → suffix_of text ≡ o
     → ((base == 10) ≡ true → is_empty digits ≡ false → 0 < digits_value base digits) → integer base digits o ≡ Token kind
     → IsLexedKind kind
 integer_facts base digits text None kind suffix pos is = absurd cc
-integer_facts base digits text (Some s) kind suffix pos is = integer_step base digits text s kind (is_empty digits) (nat_lt (digits_value base digits) (2 ^ 64)) refl refl suffix pos is
+integer_facts base digits text (Some s) kind suffix pos is =
+    integer_step base digits text s kind (is_empty digits) (nat_lt (digits_value base digits) (2 ^ 64)) refl refl suffix pos is
 
 in_base : (base : ℕ) (body : List ℕ) (kind : TokenKind)
-    → ((base == 10) ≡ true → is_empty (take_while (λ b. is_digit b base) body) ≡ false → 0 < digits_value base (take_while (λ b. is_digit b base) body)) → integer_in base body ≡ Token kind → IsLexedKind kind
+    → ((base == 10) ≡ true → is_empty (take_while (λ b. is_digit b base) body) ≡ false
+    → 0 < digits_value base (take_while (λ b. is_digit b base) body)) → integer_in base body ≡ Token kind → IsLexedKind kind
 in_base base body kind pos is =
-    integer_facts base (take_while (λ b. is_digit b base) body) (drop (prefix_len (λ b. is_digit b base) body) body) (suffix_of (drop (prefix_len (λ b. is_digit b base) body) body)) kind refl pos is
+    integer_facts base (take_while (λ b. is_digit b base) body) (drop (prefix_len (λ b. is_digit b base) body) body)
+    (suffix_of (drop (prefix_len (λ b. is_digit b base) body) body)) kind refl pos is
 
 number_step : (text : List ℕ) (kind : TokenKind) (v w : Bool) → is_hexadecimal text ≡ v → begins_zero text ≡ w → number text ≡ Token kind
     → IsLexedKind kind
@@ -228,7 +241,8 @@ shape_on : (close : ℕ) (escapes escaped : Bool) (bs : List ℕ) (s : Shape) �
 unfolding shape
 shape_on close escapes escaped [] s is = refl
 shape_on close escapes escaped (b ∷ bs) s is =
-    shape_step close escapes escaped b bs s (b == 10) (b == close && not escaped) refl refl (shape_on close escapes (escapes && b == 92 && not escaped) bs s) is
+    shape_step close escapes escaped b bs s (b == 10) (b == close && not escaped) refl refl
+    (shape_on close escapes (escapes && b == 92 && not escaped) bs s) is
 
 -- a literal that is a token is closed
 literal_found : (close : ℕ) (escapes : Bool) (of : Shape → List ℕ → Piece) (bs : List ℕ) (kind : TokenKind) (o : Option Shape)
@@ -236,8 +250,10 @@ literal_found : (close : ℕ) (escapes : Bool) (of : Shape → List ℕ → Piec
     → option_map (λ s. of s bs) o ≡ Some (Token kind)
     → (of closed bs ≡ Token kind) × (shape close escapes false bs ≡ Some closed) × (on_line bs ≡ true)
 literal_found close escapes of bs kind None unclosed_is e is = absurd cc
-literal_found close escapes of bs kind (Some unclosed) unclosed_is e is = let refused : Some (Refused OpenText 0) ≡ Some (Token kind) = rw unclosed_is at is in absurd cc
-literal_found close escapes of bs kind (Some closed) unclosed_is e is = ((let token : of closed bs ≡ Token kind = cc in token), e, shape_on close escapes false bs closed e)
+literal_found close escapes of bs kind (Some unclosed) unclosed_is e is =
+    let refused : Some (Refused OpenText 0) ≡ Some (Token kind) = rw unclosed_is at is in absurd cc
+literal_found close escapes of bs kind (Some closed) unclosed_is e is =
+    ((let token : of closed bs ≡ Token kind = cc in token), e, shape_on close escapes false bs closed e)
 
 string_kind : (r : Result (List ℕ) ℕ) (kind : TokenKind) → string_of r ≡ Token kind → IsLexedKind kind
 string_kind (Ok bytes) kind is = lexed_at (k.Str bytes) kind (token_kind (k.Str bytes) kind is) tt
@@ -281,7 +297,8 @@ header_body (b ∷ c ∷ cs) is = header_step b c cs (b == 10) (b == 62) refl re
 header_facts : (bs : List ℕ) (kind : TokenKind) → literal_piece 62 false header bs ≡ Some (Token kind) → Facts (60 ∷ bs) kind
 header_facts bs kind is =
     let found = literal_found 62 false header bs kind (shape 62 false false bs) refl refl is in
-    facts_at (60 ∷ bs) (k.HeaderName (body_of bs)) kind (token_kind (k.HeaderName (body_of bs)) kind found.0) (record { lexed = header_body bs found.1; line = found.2 })
+    facts_at (60 ∷ bs) (k.HeaderName (body_of bs)) kind (token_kind (k.HeaderName (body_of bs)) kind found.0)
+    (record { lexed = header_body bs found.1; line = found.2 })
 
 -- ---- all tokens
 
@@ -294,7 +311,10 @@ alone_none piece (b ∷ bs) kind other is = cc
 
 quote_facts : (after_include : Bool) (b : ℕ) (bs : List ℕ) (kind : TokenKind) (v w x : Bool) → (b == 34) ≡ v → (b == 39) ≡ w
     → (b == 60 && after_include) ≡ x
-    → (if b == 34 then literal_piece 34 true string bs else (if b == 39 then literal_piece 39 true constant bs else (if b == 60 && after_include then literal_piece 62 false header bs else punct_piece (b ∷ bs)))) ≡ Some (Token kind) → Facts (b ∷ bs) kind
+    → (if b == 34 then literal_piece 34 true string bs
+    else (if b == 39 then literal_piece 39 true constant bs
+    else (if b == 60 && after_include then literal_piece 62 false header bs else punct_piece (b ∷ bs)))) ≡ Some (Token kind)
+    → Facts (b ∷ bs) kind
 quote_facts after_include b bs kind true w x e f g is = facts_from b 34 bs kind e (string_facts bs kind (rw e at is))
 quote_facts after_include b bs kind false true x e f g is = facts_from b 39 bs kind f (constant_facts bs kind (rw (e, f) at is))
 quote_facts after_include b bs kind false false true e f g is =
@@ -308,10 +328,13 @@ facts_step : (after_include : Bool) (b : ℕ) (bs : List ℕ) (kind : TokenKind)
 unfolding spelled
 facts_step after_include b bs kind true w x y z t c d e f g h is = absurd (alone_none Space bs kind (λ same. cc) (rw c at is))
 facts_step after_include b bs kind false true x y z t c d e f g h is = absurd (alone_none Newline bs kind (λ same. cc) (rw (c, d) at is))
-facts_step after_include b bs kind false false true y z t c d e f g h is = word_facts b bs kind (list_all goes_on bs) (is_prefixed (b ∷ bs)) refl refl e (rw (c, d, e) at is)
+facts_step after_include b bs kind false false true y z t c d e f g h is =
+    word_facts b bs kind (list_all goes_on bs) (is_prefixed (b ∷ bs)) refl refl e (rw (c, d, e) at is)
 facts_step after_include b bs kind false false false true z t c d e f g h is = digits_facts b bs kind f (rw (c, d, e, f) at is)
-facts_step after_include b bs kind false false false false true t c d e f g h is = facts_from b 46 bs kind g (dot_facts bs kind (rw (c, d, e, f, g) at is))
-facts_step after_include b bs kind false false false false false true c d e f g h is = facts_from b 47 bs kind h (slash_facts bs kind (rw (c, d, e, f, g, h) at is))
+facts_step after_include b bs kind false false false false true t c d e f g h is =
+    facts_from b 46 bs kind g (dot_facts bs kind (rw (c, d, e, f, g) at is))
+facts_step after_include b bs kind false false false false false true c d e f g h is =
+    facts_from b 47 bs kind h (slash_facts bs kind (rw (c, d, e, f, g, h) at is))
 facts_step after_include b bs kind false false false false false false c d e f g h is =
     quote_facts after_include b bs kind (b == 34) (b == 39) (b == 60 && after_include) refl refl refl (rw (c, d, e, f, g, h) at is)
 
@@ -319,4 +342,6 @@ pub token_facts : (after_include : Bool) (text : List ℕ) (kind : TokenKind) �
     → Facts text kind
 unfolding spelled
 token_facts after_include [] kind is = absurd cc
-token_facts after_include (b ∷ bs) kind is = facts_step after_include b bs kind (is_space b) (is_newline b) (begins_name b) (is_ascii_digit b) (b == 46) (b == 47) refl refl refl refl refl refl is
+token_facts after_include (b ∷ bs) kind is =
+    facts_step after_include b bs kind (is_space b) (is_newline b) (begins_name b) (is_ascii_digit b) (b == 46)
+    (b == 47) refl refl refl refl refl refl is

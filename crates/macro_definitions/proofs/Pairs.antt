@@ -16,7 +16,8 @@ names_same (x ∷ xs) (y ∷ ys) = ap (λ (r : Bool). same_name x.now y.now && r
 -- where the elements at i are compared
 pub compared_at : (a b : List Part) (i : ℕ) (x y : Part) → i < length a → i < length b → x ≡ get_or a i x → y ≡ get_or b i y
     → pointwise same_part (body_part_views (drop i a)) (body_part_views (drop i b)) ≡
-    (same_part (body_part_view x) (body_part_view y) && pointwise same_part (body_part_views (drop (i + 1) a)) (body_part_views (drop (i + 1) b)))
+    (same_part (body_part_view x) (body_part_view y) && pointwise same_part (body_part_views (drop (i + 1) a))
+    (body_part_views (drop (i + 1) b)))
 compared_at a b i x y l m e f =
     let d : drop i a ≡ x ∷ drop (suc i) a = drop-cons a i x l ∙ ap (λ (z : Part). z ∷ drop (suc i) a) (sym e) in
     let g : drop i b ≡ y ∷ drop (suc i) b = drop-cons b i y m ∙ ap (λ (z : Part). z ∷ drop (suc i) b) (sym f) in

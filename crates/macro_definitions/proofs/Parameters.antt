@@ -110,7 +110,8 @@ module _ (front : List Name) (name : Name) (e : repeats name front ≡ true) whe
   repeated_by k rest more = by (closes k) (is_comma k)
     where
       by : (a b : Bool) → distinct
-          (behind front (if a then Some (record { names = name ∷ []; rest = rest }) else (if b then with_parameter name more else None))) ≡ None
+          (behind front (if a then Some (record { names = name ∷ []; rest = rest }) else (if b then with_parameter name more else None)))
+          ≡ None
       by true b = rw (not_distinct front [] name e) refl
       by false true = repeated_behind more
       by false false = refl

@@ -64,9 +64,15 @@ module _ (n : Name) where
       → has (names set) n ≡ false
   absent set i low high =
       list_any_none (same_name n) (names set)
-      (λ k d lt. rw (at set k d (omega (arith, length-map set (λ (r : Bor (List ℕ)). r.now)))) (other k (omega (arith, length-map set (λ (r : Bor (List ℕ)). r.now))))) where
+      (λ k d lt. rw (at set k d (omega (arith, length-map set (λ (r : Bor (List ℕ)). r.now))))
+      (other k (omega (arith, length-map set (λ (r : Bor (List ℕ)). r.now))))) where
         other : (k : ℕ) → k < length set → same_name n (get_or set k nameless).now ≡ false
-        other k lt = elim (cases_lt k i) [ inl below ↦ differs n _ Less (low k nameless (omega arith) below) refl | inr above ↦ differs n _ Greater (high k nameless above lt) refl ]
+        other k lt =
+            elim (cases_lt k i) [
+              | inl below ↦ differs n _ Less (low k nameless (omega arith) below) refl
+              | inr above ↦ differs n _ Greater
+                  (high k nameless above lt) refl
+            ]
 
   placed : (r : Bor (List ℕ)) → r.now ≡ n → (set : List (Bor (List ℕ))) (i : ℕ) → i ≤ length set
       → AllWithin (λ s. by_bytes s.now n ≡ Less) set 0 i → AllWithin (λ s. by_bytes s.now n ≡ Greater) set i (length set)
@@ -77,22 +83,32 @@ module _ (n : Name) where
       rw (turned x.now n Greater (high 0 nameless (omega arith) (omega arith))) (ap (λ (m : Name). m ∷ names (x ∷ xs)) e)
   placed r e (x ∷ xs) (suc i) le low high =
       rw (turned x.now n Less (low 0 nameless (omega arith) (omega arith)))
-      (ap (λ (ms : List Name). x.now ∷ ms) (placed r e xs i (omega arith) (λ k d a b. low (suc k) d (omega arith) (omega arith)) (λ k d a b. high (suc k) d (omega arith) (omega arith))))
+      (ap (λ (ms : List Name). x.now ∷ ms) (placed r e xs i (omega arith) (λ k d a b. low (suc k) d (omega arith) (omega arith))
+      (λ k d a b. high (suc k) d (omega arith) (omega arith))))
 
   module _ (set : List (Bor (List ℕ))) (up : IsStrictlySortedBy by_bytes (names set)) where
     ascends : (i j : ℕ) (d : Bor (List ℕ)) → i < j → j < length set → by_bytes (get_or set i d).now (get_or set j d).now ≡ Less
     ascends i j d below lt =
-        rw (← get_or-map (λ (r : Bor (List ℕ)). r.now) set i d d.now (omega arith), ← get_or-map (λ (r : Bor (List ℕ)). r.now) set j d d.now lt)
+        rw (
+          ← get_or-map (λ (r : Bor (List ℕ)). r.now) set i d d.now (omega arith),
+          ← get_or-map (λ (r : Bor (List ℕ)). r.now) set j d d.now lt,
+        )
         (Less-from_sorted by_bytes (names set) i j d.now up below (omega (arith, length-map set (λ (r : Bor (List ℕ)). r.now))))
 
     rising : IsNonDecreasingBy (λ r. ordering_index (by_bytes r.now n)) set
     rising i j d le lt = elim
-        (cases_lt i j) [ inl below ↦ rises_to _ _ n _ (ascends i j d below lt) refl | inr above ↦ (let same : i ≡ j = omega arith in omega (arith, ap (λ (k : ℕ). ordering_index (by_bytes (get_or set k d).now n)) same)) ]
+        (cases_lt i j) [
+          | inl below ↦ rises_to _ _ n _
+              (ascends i j d below lt) refl
+          | inr above ↦ (let same : i ≡ j = omega arith in
+              omega (arith, ap (λ (k : ℕ). ordering_index (by_bytes (get_or set k d).now n)) same))
+        ]
 
     pub found : (r : Result ℕ ℕ) → IsSearchInRange r (length set) → IsBinarySearchResult (λ y. by_bytes y.now n) set r
         → is_ok r ≡ has (names set) n
     found (Ok k) lt h = sym
-        (list_any_at (same_name n) (names set) k [] (omega (arith, length-map set (λ (r : Bor (List ℕ)). r.now))) (rw (at set k [] lt) (texts_ties n (get_or set k nameless).now ∙ ap is_eq (turned _ n Equal (h nameless)))))
+        (list_any_at (same_name n) (names set) k [] (omega (arith, length-map set (λ (r : Bor (List ℕ)). r.now)))
+        (rw (at set k [] lt) (texts_ties n (get_or set k nameless).now ∙ ap is_eq (turned _ n Equal (h nameless)))))
     found (Err i) le h = let parted = h rising in sym (absent set i parted.0 parted.1)
 
     -- where the name was not found, it goes into its place

@@ -28,7 +28,8 @@ module _ (ms : Macros) (front : List Item) (line : List Token) (i : ℕ) (x : To
   token_dropped = rw add-one (drop-cons line i x lt ∙ ap (λ (z : Token). z ∷ drop (suc i) line) (sym is))
 
   next : with_answers ms 0 (drop i line) ≡
-      (if asks_defined x.kind then answered ms x (asked (drop (i + 1) line)) (λ n. with_answers ms n (drop (i + 1) line)) else before x (with_answers ms 0 (drop (i + 1) line)))
+      (if asks_defined x.kind then answered ms x (asked (drop (i + 1) line)) (λ n. with_answers ms n (drop (i + 1) line))
+      else before x (with_answers ms 0 (drop (i + 1) line)))
   unfolding with_answers
   next = ap (with_answers ms 0) token_dropped
 

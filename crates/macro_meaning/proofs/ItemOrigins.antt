@@ -81,7 +81,8 @@ module _ (P : TokenKind → Type 0) where
   called_holds t n body None b h = tt
   called_holds t n body (Some c) b h =
       turn_if (right_number n (arguments c))
-      (becomes (record { body = body; hide = with_name t.kind (intersection t.hide c.close); arguments = arguments c; rest = c.rest })) bad_call
+      (becomes (record { body = body; hide = with_name t.kind (intersection t.hide c.close); arguments = arguments c; rest = c.rest }))
+      bad_call
       (b, All-cons ArgumentHolds (written c.first) c.others h.0 h.1, h.2) tt
 
   parameters_hold : (depth : ℕ) (t : Item) (ts : List Item) (body : List BodyPart) (o : Option (List Name)) → All BodyPartHolds body

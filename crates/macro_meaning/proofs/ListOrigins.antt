@@ -119,7 +119,8 @@ module _ (P : TokenKind → Type 0)
   defined_as_holds name (t ∷ ts) h =
       definition_if (opens_at_once t) (option_map (with_parameters name) (distinct (parameters_of ts)))
       (Some (record { name = name; parameters = None; body = t ∷ ts }))
-      (with_parameters_hold name (distinct (parameters_of ts)) (distinct_hold (parameters_of ts) (parameters_hold ts (All-tail TokenHolds t ts h)))) h
+      (with_parameters_hold name (distinct (parameters_of ts))
+      (distinct_hold (parameters_of ts) (parameters_hold ts (All-tail TokenHolds t ts h)))) h
 
   of_name : (o : Option Name) (f : Name → Option Definition) → ((name : Name) → DefinitionHolds (f name))
       → DefinitionHolds (option_and_then f o)
@@ -224,7 +225,8 @@ module _ (P : TokenKind → Type 0)
   on_include_holds st hash (Some h) k =
       next_if (list_any (same_header h) st.headers) (goes st []) (includes st hash h (with_definitions (header_macros h) st.macros))
       (k, All-nil TokenHolds)
-      (includes_holds st hash h (with_definitions (header_macros h) st.macros) (with_definitions_hold (header_macros h) st.macros (of_headers h) k))
+      (includes_holds st hash h (with_definitions (header_macros h) st.macros)
+      (with_definitions_hold (header_macros h) st.macros (of_headers h) k))
 
   decided_holds : (st : State) (place : Place) (g : Group) (gs : List Group) (d : Option Bool) → MacrosHold P st.macros
       → NextHolds (decided st place g gs d)
@@ -245,7 +247,8 @@ module _ (P : TokenKind → Type 0)
   on_elif_holds st place line (g ∷ gs) h k =
       move_if g.had_else (moves (refuses _))
       (if waits g.state then decides place line g gs else moves (with_groups st (record g { state = Over } ∷ gs))) tt
-      (move_if (waits g.state) (decides place line g gs) (moves (with_groups st (record g { state = Over } ∷ gs))) k (h, All-nil TokenHolds))
+      (move_if (waits g.state) (decides place line g gs) (moves (with_groups st (record g { state = Over } ∷ gs))) k
+      (h, All-nil TokenHolds))
 
   on_else_holds : (st : State) (place : Place) (gs : List Group) → MacrosHold P st.macros → NextHolds (on_else st place gs)
   on_else_holds st place [] h = tt

@@ -61,7 +61,8 @@ unfolding rest_of
 bounded_call depth n t k body None le lt = tt
 bounded_call depth n t k body (Some c) le lt =
     bounded_if depth n (right_number k (arguments c))
-    (becomes (record { body = body; hide = with_name t.kind (intersection t.hide c.close); arguments = arguments c; rest = c.rest })) bad_call
+    (becomes (record { body = body; hide = with_name t.kind (intersection t.hide c.close); arguments = arguments c; rest = c.rest }))
+    bad_call
     (λ e. (le, λ h. lt)) tt
 
 bounded_params : (depth : ℕ) (t : Item) (ts : List Item) (body : List BodyPart) (p : Option (List Name))
@@ -70,7 +71,8 @@ bounded_params depth t ts body None = (omega arith, λ h. absurd (omega arith))
 bounded_params depth t ts body (Some names) =
     bounded_if depth (length ts) (opens_next ts) (called depth t (length names) body (drop 1 ts)) stays
     (λ e. bounded_if depth (length ts) (nat_lt depth nesting_limit) (called_with t (length names) body (call 0 (drop 1 ts))) bad_call
-    (λ f. bounded_call depth (length ts) t (length names) body (call 0 (drop 1 ts)) (let s = shorter (drop 1 ts) 0 in omega (arith, length-drop 1 ts)) (below depth f)) tt) tt
+    (λ f. bounded_call depth (length ts) t (length names) body (call 0 (drop 1 ts))
+    (let s = shorter (drop 1 ts) 0 in omega (arith, length-drop 1 ts)) (below depth f)) tt) tt
   where
     below : (depth : ℕ) → nat_lt depth nesting_limit ≡ true → depth < nesting_limit
     below depth f = grind (arith, nat_tests)
@@ -127,8 +129,11 @@ module _ (ms : Macros) (depth : ℕ) where
       → ((count' : ℕ) (args' : List Argument) → length args' ≡ length args → HasResult count' place hide args' body)
       → HasResult count place hide args (parameter k ∷ body)
   result_by count place hide args k body (Ok r) x g more =
-      let so = more r.1 r.0 g.1 in
-      (behind (map (hidden hide) (argument_text (slice_get r.0 k))) so.0, of_argument x so.1, grows_behind count (map (hidden hide) (argument_text (slice_get r.0 k))) so.0 (grows_from count r.1 so.0 g.0 so.2))
+      let so = more r.1 r.0 g.1 in (
+        behind (map (hidden hide) (argument_text (slice_get r.0 k))) so.0,
+        of_argument x so.1,
+        grows_behind count (map (hidden hide) (argument_text (slice_get r.0 k))) so.0 (grows_from count r.1 so.0 g.0 so.2),
+      )
   result_by count place hide args k body (Err e) x g more = (Err e, refused x, tt)
 
   result : (body : List BodyPart) (count : ℕ) (place : Place) (hide : HideSet) (args : List Argument) → (0 < length args → Deeper ms depth)
@@ -188,7 +193,8 @@ total_at ms depth deeper (suc n) count (t ∷ ts) lt =
 total_by : (ms : Macros) (room depth : ℕ) → nesting_limit ≤ depth + room → (n : ℕ) → Enough ms depth n
 total_by ms zero depth le = total_at ms depth (λ h. absurd (omega arith))
 total_by ms (suc room) depth le =
-    total_at ms depth (λ h count ts. total_by ms room (depth + 1) (omega arith) (suc (2 * (token_limit - count) + length ts)) count ts (omega arith))
+    total_at ms depth (λ h count ts. total_by ms room (depth + 1) (omega arith) (suc (2 * (token_limit - count) + length ts)) count ts
+    (omega arith))
 
 pub total : (ms : Macros) (depth count : ℕ) (ts : List Item) → (out : ReplacedList) × Expands ms depth count ts out
 total ms depth count ts =

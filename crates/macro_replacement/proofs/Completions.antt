@@ -58,7 +58,10 @@ module _ (ms : Macros) (depth : ℕ) (place : Place) (hide : HideSet) (from : �
       → Finishes ms depth place hide from args body front count now (plain kind spaced ∷ rest)
       → Finishes ms depth place hide from args body (front ++ replacing place hide kind spaced ∷ []) count now rest
   finishes_plain kind spaced rest f =
-      record { finishes = λ out r. rw (behind_more front (replacing place hide kind spaced ∷ []) out) (f.finishes (behind (replacing place hide kind spaced ∷ []) out) (own r)) }
+      record {
+        finishes = λ out r. rw (behind_more front (replacing place hide kind spaced ∷ []) out)
+            (f.finishes (behind (replacing place hide kind spaced ∷ []) out) (own r));
+      }
 
   finishes_parameter : (k : ℕ) (rest : List BodyPart) (count' : ℕ) (now' : List Argument) → Readies ms depth count now k (Ok (now', count'))
       → Finishes ms depth place hide from args body front count now (parameter k ∷ rest)

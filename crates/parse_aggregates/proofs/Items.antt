@@ -13,7 +13,8 @@ use Rattle.parse_tokens.proofs.Binds.{bind_each, bind_made}
 use Rattle.parse_lists.proofs.Lists.{ListOf, ended}
 
 module _ (n : ℕ) where
-  comma_by_end : (later : List Lexeme → Option (Read (List Enumerator))) (x : Read Enumerator) (t : List Lexeme) → enumerators_comma (expression n) later x t ≡ ended later x (body_end_at t)
+  comma_by_end : (later : List Lexeme → Option (Read (List Enumerator))) (x : Read Enumerator) (t : List Lexeme) →
+      enumerators_comma (expression n) later x t ≡ ended later x (body_end_at t)
   comma_by_end later x [] = refl
   comma_by_end later x (at (k.Punct p.RightBrace) o ∷ t) = refl
   comma_by_end later x (o ∷ t) = refl
@@ -36,7 +37,8 @@ module _ (n : ℕ) where
   abbrev pub declarator_tree : List Lexeme → Option (Read Declarator)
   declarator_tree s = declarator n s >>= λ x. Some (found x.tree.tree x.height x.rest)
 
-  pub tree_found : (s : List Lexeme) (x : Read Named) → declarator n s ≡ Some x → declarator_tree s ≡ Some (found x.tree.tree x.height x.rest)
+  pub tree_found : (s : List Lexeme) (x : Read Named) → declarator n s ≡ Some x →
+      declarator_tree s ≡ Some (found x.tree.tree x.height x.rest)
   tree_found s x e = ap (λ r. r >>= λ x. Some (found x.tree.tree x.height x.rest)) e
 
   pub tree_none : (s : List Lexeme) → declarator n s ≡ None → declarator_tree s ≡ None
@@ -53,7 +55,8 @@ module _ (n : ℕ) where
   unfolding declarators
   declarators_are = record {
     step = λ m s. bind_each (declarator n s) _ _ (λ x. declarators_by_end (declarators (declarator n) m) x x.rest)
-        ∙ bind_made (declarator n s) (λ x. found x.tree.tree x.height x.rest) (λ x. declarators_end_at x.rest >>= ended (declarators (declarator n) m) x);
+        ∙ bind_made (declarator n s) (λ x. found x.tree.tree x.height x.rest)
+        (λ x. declarators_end_at x.rest >>= ended (declarators (declarator n) m) x);
     last = λ s. refl;
   }
 
@@ -66,6 +69,8 @@ module _ (n : ℕ) where
   pub members_are : ListOf (member_decl (declarator n) (outer_spec n)) (λ t. Some (body_end_at t)) (members (declarator n) (outer_spec n))
   unfolding members
   members_are = record {
-    step = λ m s. bind_each (member_decl (declarator n) (outer_spec n) s) _ _ (λ x. members_by_end (members (declarator n) (outer_spec n) m) x x.rest);
+    step =
+        λ m s. bind_each (member_decl (declarator n) (outer_spec n) s) _ _
+        (λ x. members_by_end (members (declarator n) (outer_spec n) m) x x.rest);
     last = λ s. refl;
   }

@@ -36,10 +36,13 @@ file_alike n m a b [] e = refl
 file_alike n zero a b (o ∷ s) e = refl
 file_alike n (suc m) a b (o ∷ s) e =
     ap (goes_on n (file n m) a o s) (ap (external n) (lexemes_alike a b (o ∷ s) e))
-    ∙ go (external n (map (lexeme b) (o ∷ s))) (λ r. file_alike n m (a ++ r.tree.names) (b ++ r.tree.names) (drop (length (o ∷ s) - length r.rest) (o ∷ s)) (append_same a b r.tree.names e))
+    ∙ go (external n (map (lexeme b) (o ∷ s))) (λ r.
+    file_alike n m (a ++ r.tree.names) (b ++ r.tree.names) (drop (length (o ∷ s) - length r.rest) (o ∷ s))
+    (append_same a b r.tree.names e))
   where
     go : (r : Option (Read NamedExternal))
-        → ((r : Read NamedExternal) → file n m (a ++ r.tree.names) (drop (length (o ∷ s) - length r.rest) (o ∷ s)) ≡ file n m (b ++ r.tree.names) (drop (length (o ∷ s) - length r.rest) (o ∷ s)))
+        → ((r : Read NamedExternal) → file n m (a ++ r.tree.names) (drop (length (o ∷ s) - length r.rest) (o ∷ s))
+        ≡ file n m (b ++ r.tree.names) (drop (length (o ∷ s) - length r.rest) (o ∷ s)))
         → goes_on n (file n m) a o s r ≡ goes_on n (file n m) b o s r
     go None later = refl
     go (Some r) later = ap (behind r.tree.tree) (later r)
@@ -57,7 +60,8 @@ module _ (n : ℕ) (xs : List External) (types : List (List ℕ)) (s : List Toke
         ap (λ l. behind_all xs (file n (suc m) types l)) e ∙ ap (λ r. behind_all xs (goes_on n (file n m) types o t r)) here
 
     pub file_goes : (m : ℕ) (r : Read NamedExternal) → s ≡ o ∷ t → external n (map (lexeme types) s) ≡ Some r →
-        behind_all xs (file n (suc m) types s) ≡ behind_all (xs ++ r.tree.tree ∷ []) (file n m (types ++ r.tree.names) (drop (length s - length r.rest) s))
+        behind_all xs (file n (suc m) types s) ≡ behind_all (xs ++ r.tree.tree ∷ [])
+        (file n m (types ++ r.tree.names) (drop (length s - length r.rest) s))
     unfolding file
     file_goes m r e found =
         let here : external n (map (lexeme types) (o ∷ t)) ≡ Some r = ap (λ l. external n (map (lexeme types) l)) (sym e) ∙ found in
@@ -79,22 +83,26 @@ take_behind xs n m same =
 declares_read : (s : List Token) (out : Declarations) → file highest_part (length s) [] s ≡ out → Declares [] s out
 declares_read s out e = subst (Declares [] s) e (file_declares (length s) [] s (omega arith))
 
-pub derives_refused : (s : List Token) (r : Refusal) → first_left_out s ≡ None → first_deep 0 s ≡ None → r.rule ≡ rule.Syntax → file highest_part (length s) [] s ≡ Err r.place →
+pub derives_refused : (s : List Token) (r : Refusal) → first_left_out s ≡ None → first_deep 0 s ≡ None → r.rule ≡ rule.Syntax →
+    file highest_part (length s) [] s ≡ Err r.place →
     Derives s (Err r)
 derives_refused s r kept low is read =
     let made : Rule → Refusal = λ w. record { rule = w; place = r.place } in
     let P : Refusal → Type 0 = λ q. Derives s (Err q) in
     subst P (ap made (sym is)) (f.refused_syntax kept low (declares_read s (Err r.place) read))
 
-pub derives_read : (s : List Token) (xs : List External) → first_left_out s ≡ None → first_deep 0 s ≡ None → file highest_part (length s) [] s ≡ Ok xs →
+pub derives_read : (s : List Token) (xs : List External) → first_left_out s ≡ None → first_deep 0 s ≡ None →
+    file highest_part (length s) [] s ≡ Ok xs →
     Derives s (Ok (record { externals = xs }))
 derives_read s xs kept low read = f.derived kept low (declares_read s (Ok xs) read)
 
-err_read : (s : List Token) (e : Fault) → first_left_out s ≡ None → first_deep 0 s ≡ None → IsRead (file highest_part (length s) [] s) (Err e) → Fails e (Derives s)
+err_read : (s : List Token) (e : Fault) → first_left_out s ≡ None → first_deep 0 s ≡ None →
+    IsRead (file highest_part (length s) [] s) (Err e) → Fails e (Derives s)
 err_read s fault.NoMemory kept low read = tt
 err_read s (fault.Refused r) kept low read = derives_refused s r kept low read.0 read.1
 
-pub err_derives : (s : List Token) (r : Result FileTree Fault) (e : Fault) → first_left_out s ≡ None → first_deep 0 s ≡ None → IsErrAnd r (λ f. e ≡ f) →
+pub err_derives : (s : List Token) (r : Result FileTree Fault) (e : Fault) → first_left_out s ≡ None → first_deep 0 s ≡ None →
+    IsErrAnd r (λ f. e ≡ f) →
     IsRead (file highest_part (length s) [] s) (Err e) → Answers (λ tree. tree) r (Derives s)
 err_derives s (Ok x) e kept low same read = absurd same
 err_derives s (Err f) e kept low same read =

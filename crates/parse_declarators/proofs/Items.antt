@@ -21,6 +21,8 @@ module _ (n : ℕ) where
   pub params_are : ListOf (param (suc n) (expression n) (declarator n)) params_end_at (params_some (suc n) (expression n) (declarator n))
   unfolding params_some
   params_are = record {
-    step = λ m s. bind_each (param (suc n) (expression n) (declarator n) s) _ _ (λ x. params_by_end (params_some (suc n) (expression n) (declarator n) m) x x.rest);
+    step =
+        λ m s. bind_each (param (suc n) (expression n) (declarator n) s) _ _
+        (λ x. params_by_end (params_some (suc n) (expression n) (declarator n) m) x x.rest);
     last = λ s. refl;
   }

@@ -8,7 +8,8 @@ pub declarator-zero : (depth : ℕ) (s : List Lexeme) → depth ≡ 0 → declar
 unfolding declarator
 declarator-zero depth s e = rw e refl
 
-pub declarator_deeper : (depth : ℕ) (s : List Lexeme) → 0 < depth → declarator depth s ≡ whole (suc (depth - 1)) (expression (depth - 1)) (declarator (depth - 1)) (suc (length s)) s
+pub declarator_deeper : (depth : ℕ) (s : List Lexeme) → 0 < depth
+    → declarator depth s ≡ whole (suc (depth - 1)) (expression (depth - 1)) (declarator (depth - 1)) (suc (length s)) s
 unfolding declarator
 declarator_deeper zero s some = absurd (omega arith)
 declarator_deeper (suc n) s some =

@@ -15,20 +15,25 @@ use Rattle.parse_reading.proofs.SoundDeclarators.{params_in_sound, whole_sound, 
 
 pub params_shorter : (n : ℕ) (s : List Lexeme) → IfSome (params_in (suc n) (expression n) (declarator n) s) (Shorter s)
 params_shorter n s =
-    weaken _ _ (params_in (suc n) (expression n) (declarator n) s) (params_in_sound n (suc n) (expression n) (expression_sound n) (declarator n) (declarator_sound n) s)
+    weaken _ _ (params_in (suc n) (expression n) (declarator n) s)
+    (params_in_sound n (suc n) (expression n) (expression_sound n) (declarator n) (declarator_sound n) s)
     (λ x f. record { shorter = alike_shorter (params_move f.derives []).1 })
 
-pub first_shorter : (n m : ℕ) (s : List Lexeme) → IfSome (first (suc n) (expression n) (declarator n) (whole (suc n) (expression n) (declarator n) m) s) (Shorter s)
+pub first_shorter : (n m : ℕ) (s : List Lexeme)
+    → IfSome (first (suc n) (expression n) (declarator n) (whole (suc n) (expression n) (declarator n) m) s) (Shorter s)
 first_shorter n m s =
     weaken _ _ (first (suc n) (expression n) (declarator n) (whole (suc n) (expression n) (declarator n) m) s)
-    (first_sound n (suc n) (expression n) (expression_sound n) (declarator n) (declarator_sound n) (whole (suc n) (expression n) (declarator n) m)
+    (first_sound n (suc n) (expression n) (expression_sound n) (declarator n) (declarator_sound n)
+    (whole (suc n) (expression n) (declarator n) m)
     (whole_sound n (suc n) (expression n) (expression_sound n) (declarator n) (declarator_sound n) m) s)
     (λ x f. record { shorter = alike_shorter (direct_moves f.derives []).1 })
 
-pub low_known : {A : Type 0} (n h : ℕ) (r : Result (WithHeight A) ParseFault) (s t : List Lexeme) → IfOk r (λ x. x.height ≡ h) → h + length t ≤ n + length s → Low n r s t
+pub low_known : {A : Type 0} (n h : ℕ) (r : Result (WithHeight A) ParseFault) (s t : List Lexeme) → IfOk r (λ x. x.height ≡ h)
+    → h + length t ≤ n + length s → Low n r s t
 low_known n h (Ok x) s t e low = omega (arith, e, low)
 low_known n h (Err e) s t same low = tt
 
-pub low_behind : {A : Type 0} (n m : ℕ) (r : Result (WithHeight A) ParseFault) (s t u : List Lexeme) → m + length t ≤ n + length s → Low m r t u → Low n r s u
+pub low_behind : {A : Type 0} (n m : ℕ) (r : Result (WithHeight A) ParseFault) (s t u : List Lexeme) → m + length t ≤ n + length s
+    → Low m r t u → Low n r s u
 low_behind n m (Ok x) s t u more low = omega (arith, more, low)
 low_behind n m (Err e) s t u more low = tt

@@ -45,12 +45,14 @@ module _ (n : ℕ) (sub : ℕ → List Lexeme → Option (Read Expr)) where
     unfolding climb
     climb_fails m e f = rw (not_below to (binds l.read.rest) e, f) refl
 
-    pub climb_goes : (m : ℕ) (z : LeftOperand) → binds l.read.rest ≤ to → next_in n sub start l l.read.rest ≡ Some z → z.read.height ≤ suc n →
+    pub climb_goes : (m : ℕ) (z : LeftOperand) → binds l.read.rest ≤ to → next_in n sub start l l.read.rest ≡ Some z →
+        z.read.height ≤ suc n →
         climb n sub (suc m) to start l ≡ climb n sub m to start z
     unfolding climb
     climb_goes m z e f low = rw (not_below to (binds l.read.rest) e, f, within z.read.height (suc n) low) refl
 
-    pub climb_high : (m : ℕ) (z : LeftOperand) → binds l.read.rest ≤ to → next_in n sub start l l.read.rest ≡ Some z → suc n < z.read.height →
+    pub climb_high : (m : ℕ) (z : LeftOperand) → binds l.read.rest ≤ to → next_in n sub start l l.read.rest ≡ Some z →
+        suc n < z.read.height →
         climb n sub (suc m) to start l ≡ None
     unfolding climb
     climb_high m z e f high = rw (not_below to (binds l.read.rest) e, f, not_within z.read.height (suc n) high) refl

@@ -14,7 +14,8 @@ module _ (n : ℕ) (sub : ℕ → List Lexeme → Option (Read Expr)) where
   within_groups [] first = first
   within_groups (start ∷ starts) first = parenthesised n sub (within_groups starts first) start
 
-  pub groups_append : (starts : List Place) (start : Place) (first : Option LeftOperand) → within_groups (starts ++ start ∷ []) first ≡ within_groups starts (parenthesised n sub first start)
+  pub groups_append : (starts : List Place) (start : Place) (first : Option LeftOperand) →
+      within_groups (starts ++ start ∷ []) first ≡ within_groups starts (parenthesised n sub first start)
   groups_append [] start first = refl
   groups_append (other ∷ starts) start first = ap (λ l. parenthesised n sub l other) (groups_append starts start first)
 

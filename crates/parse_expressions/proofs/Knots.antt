@@ -7,7 +7,8 @@ pub expression-zero : (depth to : ℕ) (s : List Lexeme) → depth ≡ 0 → exp
 unfolding expression
 expression-zero depth to s e = rw e refl
 
-pub expression_deeper : (depth to : ℕ) (s : List Lexeme) → 0 < depth → expression depth to s ≡ level_up_to (depth - 1) (expression (depth - 1)) to s
+pub expression_deeper : (depth to : ℕ) (s : List Lexeme) → 0 < depth
+    → expression depth to s ≡ level_up_to (depth - 1) (expression (depth - 1)) to s
 unfolding expression
 expression_deeper zero to s some = absurd (omega arith)
 expression_deeper (suc n) to s some =

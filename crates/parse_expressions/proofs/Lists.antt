@@ -37,6 +37,7 @@ module _ (n : ℕ) (sub : ℕ → List Lexeme → Option (Read Expr)) where
     unfolding exprs
     exprs_go t u x j e c = rw (e, behind_goes (exprs n sub m) (found x j t) t u c) (prepended-prepended xs (x ∷ []) h j (exprs n sub m u))
 
-pub exprs_over : (n : ℕ) (sub : ℕ → List Lexeme → Option (Read Expr)) (xs : List Expr) (h : ℕ) (s : List Lexeme) → prepended xs h (exprs n sub 0 s) ≡ None
+pub exprs_over : (n : ℕ) (sub : ℕ → List Lexeme → Option (Read Expr)) (xs : List Expr) (h : ℕ) (s : List Lexeme) →
+    prepended xs h (exprs n sub 0 s) ≡ None
 unfolding exprs
 exprs_over n sub xs h s = refl

@@ -25,7 +25,8 @@ use Rattle.parse_expressions.specs.Operations.{tail_of, go_on}
 
 -- a tree, and a token behind it
 token_behind : {A B : Type 0} (o : Option (Read A)) (after : List Lexeme → Option (List Lexeme)) (g : Read A → Option B) →
-    ((o >>= λ x. after x.rest >>= λ u. Some (found x.tree x.height u)) >>= g) ≡ (o >>= λ x. after x.rest >>= λ u. g (found x.tree x.height u))
+    ((o >>= λ x. after x.rest >>= λ u. Some (found x.tree x.height u)) >>= g)
+    ≡ (o >>= λ x. after x.rest >>= λ u. g (found x.tree x.height u))
 token_behind o after g = bind_bind o _ g ∙ bind_each o _ _ (λ x. bind_bind (after x.rest) _ g)
 
 module _ (n : ℕ) (sub : ℕ → List Lexeme → Option (Read Expr)) where
@@ -55,11 +56,13 @@ module _ (n : ℕ) (sub : ℕ → List Lexeme → Option (Read Expr)) where
       ∙ sym (bind_bind (sub 15 t) _ _))
       ∙ sym (bind_bind (spec.after_left_paren s) _ _)
 
-  pub prefix_sizeof : (o : Token) (s t : List Lexeme) → s ≡ at (k.Word w.Sizeof) o ∷ t → spec.prefix n sub s ≡ openings.sized n sub o.place t
+  pub prefix_sizeof : (o : Token) (s t : List Lexeme) → s ≡ at (k.Word w.Sizeof) o ∷ t →
+      spec.prefix n sub s ≡ openings.sized n sub o.place t
   unfolding spec.prefix
   prefix_sizeof o s t e = ap (spec.prefix n sub) e ∙ sized_parts o.place t
 
-  pub prefix_size_call : (o : Token) (s t : List Lexeme) → s ≡ at (k.Word w.DynamicObjectSize) o ∷ t → spec.prefix n sub s ≡ openings.size_called n sub o.place t
+  pub prefix_size_call : (o : Token) (s t : List Lexeme) → s ≡ at (k.Word w.DynamicObjectSize) o ∷ t →
+      spec.prefix n sub s ≡ openings.size_called n sub o.place t
   unfolding spec.prefix
   prefix_size_call o s t e = ap (spec.prefix n sub) e ∙ size_called_parts o.place t
 
@@ -67,7 +70,8 @@ module _ (n : ℕ) (sub : ℕ → List Lexeme → Option (Read Expr)) where
   type_opens true e = refl
   type_opens false e = cc
 
-  pub prefix_type : (o : Token) (s t : List Lexeme) → s ≡ at (k.Punct p.LeftParen) o ∷ t → openings.opens_group s ≡ false → spec.prefix n sub s ≡ openings.converted n sub o.place t
+  pub prefix_type : (o : Token) (s t : List Lexeme) → s ≡ at (k.Punct p.LeftParen) o ∷ t → openings.opens_group s ≡ false →
+      spec.prefix n sub s ≡ openings.converted n sub o.place t
   unfolding spec.prefix
   prefix_type o s t e plain =
       let begins = type_opens (spec.begins_spec t) (ap openings.opens_group (sym e) ∙ plain) in
@@ -80,9 +84,11 @@ module _ (n : ℕ) (sub : ℕ → List Lexeme → Option (Read Expr)) where
     abbrev behind : Operation × List Lexeme → Option LeftOperand
     behind y = Some (with_operation start x h y.0 place y.1)
 
-    called_some : (t : List Lexeme) → spec.called_some n sub (found x h r) t ≡ ((tails.arguments_some n sub t >>= λ xs. Some (tail.Call (tall xs), xs.rest)) >>= behind)
+    called_some : (t : List Lexeme) → spec.called_some n sub (found x h r) t
+        ≡ ((tails.arguments_some n sub t >>= λ xs. Some (tail.Call (tall xs), xs.rest)) >>= behind)
     unfolding spec.called_some
-    called_some t = sym (bind_bind (tails.arguments_some n sub t) _ behind ∙ token_behind (spec.exprs n sub (length t) t) spec.after_right_paren _)
+    called_some t =
+        sym (bind_bind (tails.arguments_some n sub t) _ behind ∙ token_behind (spec.exprs n sub (length t) t) spec.after_right_paren _)
 
     called_parts : (t : List Lexeme) → spec.called n sub (found x h r) t ≡ (tail_of n sub role.Call t >>= behind)
     called_parts [] = called_some []
@@ -94,7 +100,8 @@ module _ (n : ℕ) (sub : ℕ → List Lexeme → Option (Read Expr)) where
     chosen true y = refl
     chosen false y = refl
 
-    by_parts : (as_role : Operator) (t : List Lexeme) → spec.next_by n sub start (found x h r) as_role place t ≡ (tail_of n sub as_role t >>= behind)
+    by_parts : (as_role : Operator) (t : List Lexeme) →
+        spec.next_by n sub start (found x h r) as_role place t ≡ (tail_of n sub as_role t >>= behind)
     unfolding spec.indexed spec.chosen spec.assigned_to spec.joined spec.listed
     by_parts role.Call t = called_parts t
     by_parts role.Index t = sym (bind_bind (tails.bracketed n sub t) _ behind ∙ token_behind (sub 16 t) spec.after_right_bracket _)
@@ -102,7 +109,8 @@ module _ (n : ℕ) (sub : ℕ → List Lexeme → Option (Read Expr)) where
     by_parts (role.Member arrow) (at c q ∷ t) = chosen (is_tag c) (tail.Member arrow (text_of q) q.place, t)
     by_parts (role.Step b) t = refl
     by_parts role.Choice t =
-        sym (bind_bind (tails.colon_ended n sub t) _ behind ∙ bind_each (tails.colon_ended n sub t) _ _ (λ y. bind_bind (sub 14 y.rest) _ behind)
+        sym (bind_bind (tails.colon_ended n sub t) _ behind
+        ∙ bind_each (tails.colon_ended n sub t) _ _ (λ y. bind_bind (sub 14 y.rest) _ behind)
         ∙ token_behind (sub 16 t) spec.after_colon _)
     by_parts (role.Assign b) t = sym (bind_bind (sub 15 t) _ behind)
     by_parts (role.Join b l) t = sym (bind_bind (sub l t) _ behind)
@@ -110,7 +118,8 @@ module _ (n : ℕ) (sub : ℕ → List Lexeme → Option (Read Expr)) where
     by_parts role.Str t = refl
     by_parts role.End t = refl
 
-    if_behind : (b : Bool) (o : Option (Operation × List Lexeme)) → (if b then (o >>= behind) else None) ≡ ((if b then o else None) >>= behind)
+    if_behind : (b : Bool) (o : Option (Operation × List Lexeme)) →
+        (if b then (o >>= behind) else None) ≡ ((if b then o else None) >>= behind)
     if_behind true o = refl
     if_behind false o = refl
 
@@ -118,9 +127,12 @@ module _ (n : ℕ) (sub : ℕ → List Lexeme → Option (Read Expr)) where
     none_behind true = refl
     none_behind false = refl
 
-    from_parts : (l : ℕ) (c : Terminal) (t : List Lexeme) → spec.next_from n sub start (left l x h r) c place t ≡ go_on n sub start l x h (spec.operator_of c) place t
+    from_parts : (l : ℕ) (c : Terminal) (t : List Lexeme) →
+        spec.next_from n sub start (left l x h r) c place t ≡ go_on n sub start l x h (spec.operator_of c) place t
     unfolding spec.next_from
-    from_parts l c t = rw (by_parts (spec.operator_of c) t) (if_behind (nat_le l (spec.operator_takes (spec.operator_of c))) (tail_of n sub (spec.operator_of c) t))
+    from_parts l c t =
+        rw (by_parts (spec.operator_of c) t) (if_behind (nat_le l (spec.operator_takes (spec.operator_of c)))
+        (tail_of n sub (spec.operator_of c) t))
 
   pub next_parts : (start : Place) (l : ℕ) (x : Expr) (h : ℕ) (s : List Lexeme) →
       spec.next_in n sub start (left l x h s) s ≡ go_on n sub start l x h (tails.next_operator s) (place_of s) (tails.behind_next s)

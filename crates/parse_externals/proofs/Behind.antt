@@ -17,7 +17,8 @@ use Rattle.parse_initialisers.proofs.InitDeclarators.{from_first}
 use Rattle.parse_externals.specs.Externals.{brace_at, declared_from}
 
 module _ (n : ℕ) (place : Place) (xs : Read Specs) (t : List Lexeme) where
-  pub declared_first : (y : Read Named) → declarator n t ≡ Some y → declared n place xs t ≡ declared_from n place xs.tree xs.height (length t) y.tree y.height y.rest
+  pub declared_first : (y : Read Named) → declarator n t ≡ Some y →
+      declared n place xs t ≡ declared_from n place xs.tree xs.height (length t) y.tree y.height y.rest
   unfolding declared declared_from
   declared_first y some = rw (from_first (declarator n) (initialiser n) (length t) t y some) refl
 
@@ -50,14 +51,16 @@ module _ (n : ℕ) (place : Place) (xs : Read Specs) (t : List Lexeme) where
       declaration n place xs t ≡ declared_from n place xs.tree xs.height (length t) y.tree y.height u
   unfolding declaration by_brace
   declaration_rest y u some brace =
-      let behind = declared_first y some ∙ ap (declared_from n place xs.tree xs.height (length t) y.tree y.height) (no_brace y.rest u brace) in
+      let behind = declared_first y some ∙ ap (declared_from n place xs.tree xs.height (length t) y.tree y.height)
+      (no_brace y.rest u brace) in
       rw (some, braced y y.rest, brace) behind
 
 -- what is read behind the first declarator
 pub declared_read : (n : ℕ) (place : Place) (xs : Specs) (j turns : ℕ) (y : Named) (h : ℕ) (s : List Lexeme) (ys : Read NamedInits) →
     init_declarators_from (declarator n) (initialiser n) turns y h s ≡ Some ys →
     declared_from n place xs j turns y h s
-    ≡ bounded (suc n) (found (as_external (x.Declaration xs.specs ys.tree.trees place) (type_names xs.tally ys.tree.declared)) (suc (max j ys.height)) ys.rest)
+    ≡ bounded (suc n) (found (as_external (x.Declaration xs.specs ys.tree.trees place) (type_names xs.tally ys.tree.declared))
+    (suc (max j ys.height)) ys.rest)
 unfolding declared_from
 declared_read n place xs j turns y h s ys some = rw some refl
 
@@ -69,7 +72,9 @@ declared_fails n place xs j turns y h s none = rw none refl
 pub body_read : (n : ℕ) (place : Place) (xs : Read Specs) (y : Read Named) (start : Place) (s : List Lexeme) (zs : Read (List Stmt)) →
     items (expression n) (locals n) (statement n) (length s) s ≡ Some zs →
     body n place xs y start s
-    ≡ bounded (suc n) (found (as_external (x.Function xs.tree.specs y.tree.tree (stmt.Block zs.tree start) place) (type_names xs.tree.tally (y.tree.declared ∷ [])))
+    ≡ bounded (suc n)
+    (found (as_external (x.Function xs.tree.specs y.tree.tree (stmt.Block zs.tree start) place)
+    (type_names xs.tree.tally (y.tree.declared ∷ [])))
     (suc (max xs.height (max y.height (suc zs.height)))) zs.rest)
 unfolding body
 body_read n place xs y start s zs some = rw some refl

@@ -20,15 +20,18 @@ as_inits ts ds = record { trees = ts; declared = ds }
 abbrev pub gathered : List InitDeclarator → List Declared → ℕ → Option (Read NamedInits) → Option (Read NamedInits)
 gathered ts ds h r = r >>= λ ys. Some (found (as_inits (ts ++ ys.tree.trees) (ds ++ ys.tree.declared)) (max h ys.height) ys.rest)
 
-module _ (named : List Lexeme → Option (Read Named)) (init : List Lexeme → Option (Read Init)) (ts : List InitDeclarator) (ds : List Declared) (h : ℕ) where
+module _ (named : List Lexeme → Option (Read Named)) (init : List Lexeme → Option (Read Init)) (ts : List InitDeclarator)
+    (ds : List Declared) (h : ℕ) where
   gathered-with : (y : Read NamedInit) (r : Option (Read NamedInits)) →
       gathered ts ds h (with_init named init y r) ≡ gathered (ts ++ y.tree.tree ∷ []) (ds ++ y.tree.declared ∷ []) (max h y.height) r
   gathered-with y None = refl
   gathered-with y (Some r) =
       let made : List InitDeclarator → List Declared → ℕ → Option (Read NamedInits) = λ a b m. Some (found (as_inits a b) m r.rest) in
       let heights : max h (max y.height r.height) ≡ max (max h y.height) r.height = omega arith in
-      ap (λ a. made a (ds ++ y.tree.declared ∷ r.tree.declared) (max h (max y.height r.height))) (sym (append_assoc ts (y.tree.tree ∷ []) r.tree.trees))
-      ∙ ap (λ b. made ((ts ++ y.tree.tree ∷ []) ++ r.tree.trees) b (max h (max y.height r.height))) (sym (append_assoc ds (y.tree.declared ∷ []) r.tree.declared))
+      ap (λ a. made a (ds ++ y.tree.declared ∷ r.tree.declared) (max h (max y.height r.height)))
+      (sym (append_assoc ts (y.tree.tree ∷ []) r.tree.trees))
+      ∙ ap (λ b. made ((ts ++ y.tree.tree ∷ []) ++ r.tree.trees) b (max h (max y.height r.height)))
+      (sym (append_assoc ds (y.tree.declared ∷ []) r.tree.declared))
       ∙ ap (made ((ts ++ y.tree.tree ∷ []) ++ r.tree.trees) ((ds ++ y.tree.declared ∷ []) ++ r.tree.declared)) heights
 
 module _ (named : List Lexeme → Option (Read Named)) (init : List Lexeme → Option (Read Init)) where
@@ -64,13 +67,15 @@ module _ (named : List Lexeme → Option (Read Named)) (init : List Lexeme → O
       let height : x.height ≡ max x.height 0 = omega arith in
       ap made height
 
-  init_completed : (x : Read Named) (xs : List (List Attribute)) (u : List Lexeme) → init_behind named init x xs u ≡ completed x.tree x.height xs (init_at init u)
+  init_completed : (x : Read Named) (xs : List (List Attribute)) (u : List Lexeme) →
+      init_behind named init x xs u ≡ completed x.tree x.height xs (init_at init u)
   unfolding initialised init_some
   init_completed x xs [] = completed_none x xs []
   init_completed x xs (at (k.Punct p.Assign) o ∷ u) = completed_some x xs (init u)
   init_completed x xs (o ∷ u) = completed_none x xs (o ∷ u)
 
-  from_declarator : (x : Read Named) → (attribute_lists (length x.rest) x.rest >>= λ xs. init_behind named init x xs.0 xs.1) ≡ init_declarator_from named init x.tree x.height x.rest
+  from_declarator : (x : Read Named) → (attribute_lists (length x.rest) x.rest >>= λ xs. init_behind named init x xs.0 xs.1)
+      ≡ init_declarator_from named init x.tree x.height x.rest
   unfolding init_declarator_from
   from_declarator x = go (attribute_lists (length x.rest) x.rest)
     where
@@ -94,7 +99,8 @@ module _ (named : List Lexeme → Option (Read Named)) (init : List Lexeme → O
       unfolding init_declarator_from
       from_parts y lists some = rw (lists, some) refl
 
-  pub from_first : (n : ℕ) (s : List Lexeme) (x : Read Named) → named s ≡ Some x → init_declarators named init n s ≡ init_declarators_from named init n x.tree x.height x.rest
+  pub from_first : (n : ℕ) (s : List Lexeme) (x : Read Named) → named s ≡ Some x →
+      init_declarators named init n s ≡ init_declarators_from named init n x.tree x.height x.rest
   unfolding init_declarators init_declarator init_declarators_from
   from_first zero s x e = refl
   from_first (suc n) s x e = rw (e, from_declarator x) refl
@@ -121,27 +127,33 @@ module _ (named : List Lexeme → Option (Read Named)) (init : List Lexeme → O
     unfolding ended_by
     from_no_end y some none = rw (from_on y some, none) refl
 
-    pub from_end : (y : Read NamedInit) (t : List Lexeme) → init_declarator_from named init x h s ≡ Some y → declarators_end_at y.rest ≡ Some (true, t) →
+    pub from_end : (y : Read NamedInit) (t : List Lexeme) → init_declarator_from named init x h s ≡ Some y →
+        declarators_end_at y.rest ≡ Some (true, t) →
         gathered ts ds hs (init_declarators_from named init (suc n) x h s)
         ≡ Some (found (as_inits (ts ++ y.tree.tree ∷ []) (ds ++ y.tree.declared ∷ [])) (max hs y.height) t)
     unfolding ended_by
     from_end y t some ends = rw (from_on y some, ends) refl
 
-    from_more : (y : Read NamedInit) (t : List Lexeme) → init_declarator_from named init x h s ≡ Some y → declarators_end_at y.rest ≡ Some (false, t) →
+    from_more : (y : Read NamedInit) (t : List Lexeme) → init_declarator_from named init x h s ≡ Some y →
+        declarators_end_at y.rest ≡ Some (false, t) →
         gathered ts ds hs (init_declarators_from named init (suc n) x h s)
         ≡ gathered (ts ++ y.tree.tree ∷ []) (ds ++ y.tree.declared ∷ []) (max hs y.height) (init_declarators named init n t)
     unfolding ended_by
     from_more y t some ends = rw (from_on y some, ends) (gathered-with named init ts ds hs y (init_declarators named init n t))
 
-    pub from_no_next : (y : Read NamedInit) (t : List Lexeme) → init_declarator_from named init x h s ≡ Some y → declarators_end_at y.rest ≡ Some (false, t) → named t ≡ None →
+    pub from_no_next : (y : Read NamedInit) (t : List Lexeme) → init_declarator_from named init x h s ≡ Some y →
+        declarators_end_at y.rest ≡ Some (false, t) → named t ≡ None →
         gathered ts ds hs (init_declarators_from named init (suc n) x h s) ≡ None
     from_no_next y t some ends none = from_more y t some ends ∙ rw (no_first n t none) refl
 
-    pub from_go : (y : Read NamedInit) (t : List Lexeme) (z : Read Named) → init_declarator_from named init x h s ≡ Some y → declarators_end_at y.rest ≡ Some (false, t) → named t ≡ Some z →
+    pub from_go : (y : Read NamedInit) (t : List Lexeme) (z : Read Named) → init_declarator_from named init x h s ≡ Some y →
+        declarators_end_at y.rest ≡ Some (false, t) → named t ≡ Some z →
         gathered ts ds hs (init_declarators_from named init (suc n) x h s)
-        ≡ gathered (ts ++ y.tree.tree ∷ []) (ds ++ y.tree.declared ∷ []) (max hs y.height) (init_declarators_from named init n z.tree z.height z.rest)
+        ≡ gathered (ts ++ y.tree.tree ∷ []) (ds ++ y.tree.declared ∷ []) (max hs y.height)
+        (init_declarators_from named init n z.tree z.height z.rest)
     from_go y t z some ends next = from_more y t some ends ∙ rw (from_first n t z next) refl
 
-  pub from_none : (ts : List InitDeclarator) (ds : List Declared) (hs : ℕ) (x : Named) (h : ℕ) (s : List Lexeme) → gathered ts ds hs (init_declarators_from named init 0 x h s) ≡ None
+  pub from_none : (ts : List InitDeclarator) (ds : List Declared) (hs : ℕ) (x : Named) (h : ℕ) (s : List Lexeme) →
+      gathered ts ds hs (init_declarators_from named init 0 x h s) ≡ None
   unfolding init_declarators_from
   from_none ts ds hs x h s = refl

@@ -8,7 +8,8 @@ pub initialiser-zero : (depth : ℕ) (s : List Lexeme) → depth ≡ 0 → initi
 unfolding initialiser
 initialiser-zero depth s e = rw e refl
 
-pub initialiser_deeper : (depth : ℕ) (s : List Lexeme) → 0 < depth → initialiser depth s ≡ init_by (initialiser (depth - 1)) (expression (depth - 1 + 1)) s
+pub initialiser_deeper : (depth : ℕ) (s : List Lexeme) → 0 < depth
+    → initialiser depth s ≡ init_by (initialiser (depth - 1)) (expression (depth - 1 + 1)) s
 unfolding initialiser
 initialiser_deeper zero s some = absurd (omega arith)
 initialiser_deeper (suc n) s some =

@@ -11,7 +11,8 @@ use Rattle.parse_lists.specs.Ends.{enumerators_end_at, body_end_at}
 use Rattle.parse_lists.proofs.Lists.{ListOf, ended}
 
 module _ (deep : List Lexeme → Option (Read Init)) where
-  comma_by_end : (later : List Lexeme → Option (Read (List Init))) (x : Read Init) (s : List Lexeme) → inits_comma deep later x s ≡ ended later x (body_end_at s)
+  comma_by_end : (later : List Lexeme → Option (Read (List Init))) (x : Read Init) (s : List Lexeme) →
+      inits_comma deep later x s ≡ ended later x (body_end_at s)
   comma_by_end later x [] = refl
   comma_by_end later x (at (k.Punct p.RightBrace) o ∷ t) = refl
   comma_by_end later x (o ∷ t) = refl

@@ -24,6 +24,8 @@ module _ (named : List Lexeme → Option (Read Named)) (init : List Lexeme → O
 
     pub local_read : (ys : Read NamedInits) → specs_in plain_spec block s ≡ Some xs → named xs.rest ≡ Some x →
         init_declarators_from named init (length xs.rest) x.tree x.height x.rest ≡ Some ys → (b : Bool) → b ≡ are_objects ys.tree.declared →
-        local named init s ≡ (if b then Some (found (record { specs = xs.tree.specs; declarators = ys.tree.trees }) (max xs.height ys.height) ys.rest) else None)
+        local named init s
+        ≡ (if b then Some (found (record { specs = xs.tree.specs; declarators = ys.tree.trees }) (max xs.height ys.height) ys.rest)
+        else None)
     unfolding local
     local_read ys specs first some b test = rw (specs, from_first named init (length xs.rest) xs.rest x first, some, test) refl

@@ -34,20 +34,23 @@ before_end xs t = ap (λ zs. Some (zs, t)) (append-nil xs)
 -- ---- Balanced tokens
 
 -- a step, by what the token is among brackets
-abbrev stepped : (List Brackets → Option (List Token × List Lexeme)) → List Brackets → Token → List Lexeme → Side → Option (List Token × List Lexeme)
+abbrev stepped : (List Brackets → Option (List Token × List Lexeme)) → List Brackets → Token → List Lexeme → Side →
+    Option (List Token × List Lexeme)
 stepped later waiting o s (Opens b) = with_token o (later (b ∷ waiting))
 stepped later waiting o s Neither = with_token o (later waiting)
 stepped later [] o s (Closes b) = Some ([], s)
 stepped later (a ∷ waiting) o s (Closes b) = if same_brackets a b then with_token o (later waiting) else None
 
-by_side : (later : List Brackets → Option (List Token × List Lexeme)) (waiting : List Brackets) (o : Token) (s : List Lexeme) (begins ends : Option Brackets) →
+by_side : (later : List Brackets → Option (List Token × List Lexeme)) (waiting : List Brackets) (o : Token) (s : List Lexeme)
+    (begins ends : Option Brackets) →
     balanced_by later waiting o s begins ends ≡ stepped later waiting o s (side_by begins ends)
 by_side later waiting o s (Some b) close = refl
 by_side later waiting o s None None = refl
 by_side later [] o s None (Some b) = refl
 by_side later (a ∷ waiting) o s None (Some b) = refl
 
-as_side : (later : List Brackets → Option (List Token × List Lexeme)) (waiting : List Brackets) (c : Terminal) (o : Token) (s : List Lexeme) →
+as_side : (later : List Brackets → Option (List Token × List Lexeme)) (waiting : List Brackets) (c : Terminal) (o : Token)
+    (s : List Lexeme) →
     balanced_as later waiting c o s ≡ stepped later waiting o s (side_of c)
 as_side later waiting (k.Punct a) o s = by_side later waiting o s (opening a) (closing a)
 as_side later waiting _ o s = refl
@@ -57,7 +60,8 @@ module _ (all : List Token) (waiting : List Brackets) (c : Terminal) (o : Token)
   unfolding balanced
   step side e = rw (is, ← e) (as_side (λ w. balanced w t) waiting c o (at c o ∷ t))
 
-  pub balanced_opens : (b : Brackets) → side_of c ≡ Opens b → before all (balanced waiting s) ≡ before (all ++ o ∷ []) (balanced (b ∷ waiting) t)
+  pub balanced_opens : (b : Brackets) → side_of c ≡ Opens b →
+      before all (balanced waiting s) ≡ before (all ++ o ∷ []) (balanced (b ∷ waiting) t)
   balanced_opens b e = ap (before all) (step (Opens b) e) ∙ before_before all (o ∷ []) (balanced (b ∷ waiting) t)
 
   pub balanced_goes : side_of c ≡ Neither → before all (balanced waiting s) ≡ before (all ++ o ∷ []) (balanced waiting t)
@@ -68,7 +72,8 @@ module _ (all : List Token) (waiting : List Brackets) (c : Terminal) (o : Token)
 
   pub balanced_closes : (a b : Brackets) (others : List Brackets) → waiting ≡ a ∷ others → side_of c ≡ Closes b → same_brackets a b ≡ true →
       before all (balanced waiting s) ≡ before (all ++ o ∷ []) (balanced others t)
-  balanced_closes a b others top e same = ap (before all) (step (Closes b) e) ∙ rw (top, same) (before_before all (o ∷ []) (balanced others t))
+  balanced_closes a b others top e same =
+      ap (before all) (step (Closes b) e) ∙ rw (top, same) (before_before all (o ∷ []) (balanced others t))
 
   pub balanced_fails : (a b : Brackets) (others : List Brackets) → waiting ≡ a ∷ others → side_of c ≡ Closes b → same_brackets a b ≡ false →
       before all (balanced waiting s) ≡ None
@@ -102,7 +107,8 @@ module _ (xs : List Attribute) (m : ℕ) (s : List Lexeme) where
   unfolding attributes
   attributes_fail e = rw e refl
 
-  pub attributes_go : (x : Attribute) (t u : List Lexeme) → attribute s ≡ Some (x, t) → after_comma t ≡ Some u → before xs (attributes (suc m) s) ≡ before (xs ++ x ∷ []) (attributes m u)
+  pub attributes_go : (x : Attribute) (t u : List Lexeme) → attribute s ≡ Some (x, t) → after_comma t ≡ Some u →
+      before xs (attributes (suc m) s) ≡ before (xs ++ x ∷ []) (attributes m u)
   unfolding attributes
   attributes_go x t u e c = rw (e, behind_goes (attributes m) x t u c) (before_before xs (x ∷ []) (attributes m u))
 
@@ -111,11 +117,13 @@ module _ (xs : List Attribute) (m : ℕ) (s : List Lexeme) where
     unfolding attributes
     attributes_open f = rw (e, behind_ends (attributes m) x t c, f) refl
 
-    pub attributes_half : (u : List Lexeme) → after_right_paren t ≡ Some u → after_right_paren u ≡ None → before xs (attributes (suc m) s) ≡ None
+    pub attributes_half : (u : List Lexeme) → after_right_paren t ≡ Some u → after_right_paren u ≡ None →
+        before xs (attributes (suc m) s) ≡ None
     unfolding attributes
     attributes_half u f g = rw (e, behind_ends (attributes m) x t c, f, g) refl
 
-    pub attributes_end : (u v : List Lexeme) → after_right_paren t ≡ Some u → after_right_paren u ≡ Some v → before xs (attributes (suc m) s) ≡ Some (xs ++ x ∷ [], v)
+    pub attributes_end : (u v : List Lexeme) → after_right_paren t ≡ Some u → after_right_paren u ≡ Some v →
+        before xs (attributes (suc m) s) ≡ Some (xs ++ x ∷ [], v)
     unfolding attributes
     attributes_end u v f g = rw (e, behind_ends (attributes m) x t c, f, g) refl
 
@@ -136,7 +144,8 @@ same_terminal : {c d : Terminal} {o q : Token} {t u : List Lexeme} → ◌≡◌
 same_terminal e = cc
 
 -- the loop goes on behind a token that was looked at and then taken
-module _ (all grown : List Token) (stack later : List Brackets) (c d : Terminal) (o q copy : Token) (s t u : List Lexeme) (seen : s ≡ at c o ∷ t) (taken : s ≡ at d q ∷ u)
+module _ (all grown : List Token) (stack later : List Brackets) (c d : Terminal) (o q copy : Token) (s t u : List Lexeme)
+    (seen : s ≡ at c o ∷ t) (taken : s ≡ at d q ∷ u)
     (copied : copy ≡ q) (pushed : grown ≡ all ++ copy ∷ []) where
   side : (x : Side) → side_of c ≡ x → side_of d ≡ x
   side x e = ap side_of (same_terminal (sym taken ∙ seen)) ∙ e
@@ -144,16 +153,20 @@ module _ (all grown : List Token) (stack later : List Brackets) (c d : Terminal)
   grows : (r : Option (List Token × List Lexeme)) → before (all ++ q ∷ []) r ≡ before grown r
   grows r = ap (λ xs. before xs r) (ap (λ y. all ++ y ∷ []) (sym copied) ∙ sym pushed)
 
-  pub goes_on_opens : (b : Brackets) → side_of c ≡ Opens b → later ≡ stack ++ b ∷ [] → before all (balanced (reverse stack) s) ≡ before grown (balanced (reverse later) u)
+  pub goes_on_opens : (b : Brackets) → side_of c ≡ Opens b → later ≡ stack ++ b ∷ [] →
+      before all (balanced (reverse stack) s) ≡ before grown (balanced (reverse later) u)
   goes_on_opens b e more =
       balanced_opens all (reverse stack) d q s u taken b (side (Opens b) e)
       ∙ ap (λ w. before (all ++ q ∷ []) (balanced w u)) (sym (top_of later stack b more)) ∙ grows (balanced (reverse later) u)
 
-  pub goes_on_neither : side_of c ≡ Neither → later ≡ stack → before all (balanced (reverse stack) s) ≡ before grown (balanced (reverse later) u)
+  pub goes_on_neither : side_of c ≡ Neither → later ≡ stack →
+      before all (balanced (reverse stack) s) ≡ before grown (balanced (reverse later) u)
   goes_on_neither e same =
       balanced_goes all (reverse stack) d q s u taken (side Neither e)
       ∙ ap (λ w. before (all ++ q ∷ []) (balanced w u)) (ap reverse (sym same)) ∙ grows (balanced (reverse later) u)
 
-  pub goes_on_closes : (a b : Brackets) → side_of c ≡ Closes b → stack ≡ later ++ a ∷ [] → same_brackets a b ≡ true → before all (balanced (reverse stack) s) ≡ before grown (balanced (reverse later) u)
+  pub goes_on_closes : (a b : Brackets) → side_of c ≡ Closes b → stack ≡ later ++ a ∷ [] → same_brackets a b ≡ true →
+      before all (balanced (reverse stack) s) ≡ before grown (balanced (reverse later) u)
   goes_on_closes a b e top same =
-      balanced_closes all (reverse stack) d q s u taken a b (reverse later) (top_of stack later a top) (side (Closes b) e) same ∙ grows (balanced (reverse later) u)
+      balanced_closes all (reverse stack) d q s u taken a b (reverse later) (top_of stack later a top) (side (Closes b) e) same
+      ∙ grows (balanced (reverse later) u)

@@ -38,15 +38,18 @@ mutual
   inits_high (g.last_init_comma d) = alone (init_high d)
   inits_high (g.more_inits d i) = beside (init_high d) (inits_high i)
 
-pub init_declarator_high : {n : Declared} {h : ℕ} {a t : List Lexeme} {x : InitDeclarator} → IsInitDeclarator a x n h t → init_declarator_height x ≡ h
+pub init_declarator_high : {n : Declared} {h : ℕ} {a t : List Lexeme} {x : InitDeclarator} → IsInitDeclarator a x n h t
+    → init_declarator_height x ≡ h
 init_declarator_high (g.uninitialised d i) = alone (declarator_high d)
 init_declarator_high (g.initialised d i j) = beside (declarator_high d) (init_high j)
 
-pub init_declarators_high : {ns : List Declared} {h : ℕ} {a t : List Lexeme} {xs : List InitDeclarator} → AreInitDeclarators a xs ns h t → highest (map init_declarator_height xs) ≡ h
+pub init_declarators_high : {ns : List Declared} {h : ℕ} {a t : List Lexeme} {xs : List InitDeclarator} → AreInitDeclarators a xs ns h t
+    → highest (map init_declarator_height xs) ≡ h
 init_declarators_high (g.last_init_declarator d) = alone (init_declarator_high d)
 init_declarators_high (g.more_init_declarators d i) = beside (init_declarator_high d) (init_declarators_high i)
 
-pub local_high : {h : ℕ} {a t : List Lexeme} {xs : List Spec} {ys : List InitDeclarator} → IsLocal a xs ys h t → declaration_height xs ys ≡ h
+pub local_high : {h : ℕ} {a t : List Lexeme} {xs : List Spec} {ys : List InitDeclarator} → IsLocal a xs ys h t
+    → declaration_height xs ys ≡ h
 local_high (g.local d i o) = beside (specs_high d) (init_declarators_high i)
 
 pub optional_high : {b : Punct} {h : ℕ} {a t : List Lexeme} {x : Option Expr} → IsOptional b a x h t → optional_expr_height x ≡ h

@@ -43,7 +43,8 @@ nothing e = cc
 
 constant_high : (o : TokenKind) (x : ExprKind) (place : Place) → constant_of o ≡ Some x → expr_height (expr x place) ≡ 1
 constant_high (kind.Number v k) x place f = subst (λ y. expr_height (expr y place) ≡ 1) (same f) (expr_is _ place ∙ kind_height-Number v k)
-constant_high (kind.CharConst b) x place f = subst (λ y. expr_height (expr y place) ≡ 1) (same f) (expr_is _ place ∙ kind_height-CharConst b)
+constant_high (kind.CharConst b) x place f =
+    subst (λ y. expr_height (expr y place) ≡ 1) (same f) (expr_is _ place ∙ kind_height-CharConst b)
 constant_high (kind.Name n) x place f = nothing f
 constant_high (kind.Str n) x place f = nothing f
 constant_high (kind.Punct n) x place f = nothing f
@@ -87,9 +88,11 @@ mutual
   abstract_high (g.abstract_plain d) = abstract_direct_high d
   abstract_high (g.abstract_pointer a d) = declarator_height-Pointer _ _ _ ∙ over (abstract_direct_high d)
 
-  pub abstract_direct_high : {place : Place} {h : ℕ} {s t : List Lexeme} {x : Declarator} → IsAbstractDirect place s x h t → declarator_height x ≡ h
+  pub abstract_direct_high : {place : Place} {h : ℕ} {s t : List Lexeme} {x : Declarator} → IsAbstractDirect place s x h t
+      → declarator_height x ≡ h
   abstract_direct_high (g.abstract_arrays d) = arrays_high d
-  abstract_direct_high (g.abstract_group a d) = declarator_height-Array _ _ _ ∙ above (declarator_height-Pointer _ _ _ ∙ over (declarator_height-Omitted _)) (bound_high d)
+  abstract_direct_high (g.abstract_group a d) =
+      declarator_height-Array _ _ _ ∙ above (declarator_height-Pointer _ _ _ ∙ over (declarator_height-Omitted _)) (bound_high d)
 
   pub arrays_high : {place : Place} {h : ℕ} {s t : List Lexeme} {x : Declarator} → AreArrays place s x h t → declarator_height x ≡ h
   arrays_high g.omitted = declarator_height-Omitted _
@@ -111,7 +114,8 @@ mutual
   spec_high (g.spec_enum_body a b d) = spec_height-Enum _ _ _ ∙ over (enumerators_high d)
   spec_high (g.spec_enum_untagged a d) = spec_height-Enum _ _ _ ∙ over (enumerators_high d)
 
-  pub specs_any_high : {c : Context} {a : Tally} {h : ℕ} {s t : List Lexeme} {xs : List Spec} → AreSpecsAny c s xs a h t → specs_height xs ≡ h
+  pub specs_any_high : {c : Context} {a : Tally} {h : ℕ} {s t : List Lexeme} {xs : List Spec} → AreSpecsAny c s xs a h t
+      → specs_height xs ≡ h
   specs_any_high (g.one_spec d) = alone (spec_high d)
   specs_any_high (g.more_specs d f) = beside (spec_high d) (specs_any_high f)
 
@@ -125,11 +129,13 @@ mutual
   pub member_high : {h : ℕ} {s t : List Lexeme} {x : MemberDecl} → IsMember s x h t → member_height x ≡ h
   member_high (g.member_decl d f) = member_is _ _ ∙ beside (specs_high d) (declarators_high f)
 
-  pub declarators_high : {h : ℕ} {s t : List Lexeme} {xs : List Declarator} → AreDeclarators s xs h t → highest (map declarator_height xs) ≡ h
+  pub declarators_high : {h : ℕ} {s t : List Lexeme} {xs : List Declarator} → AreDeclarators s xs h t
+      → highest (map declarator_height xs) ≡ h
   declarators_high (g.last_declarator d) = alone (declarator_high d)
   declarators_high (g.more_declarators d f) = beside (declarator_high d) (declarators_high f)
 
-  pub enumerators_high : {h : ℕ} {s t : List Lexeme} {xs : List Enumerator} → AreEnumerators s xs h t → highest (map enumerator_height xs) ≡ h
+  pub enumerators_high : {h : ℕ} {s t : List Lexeme} {xs : List Enumerator} → AreEnumerators s xs h t
+      → highest (map enumerator_height xs) ≡ h
   enumerators_high (g.last_enumerator d) = alone (enumerator_high d)
   enumerators_high (g.last_enumerator_comma d) = alone (enumerator_high d)
   enumerators_high (g.more_enumerators d f) = beside (enumerator_high d) (enumerators_high f)

@@ -8,12 +8,14 @@ use Rattle.parse_meaning.specs.declared.terminals.Terminal.TheVariants as k
 use Rattle.parse_meaning.specs.Terminals.{Lexeme, at}
 use Rattle.parse_reading.specs.Reading.{Read, ◌>>=◌, after_left_paren, after_right_paren, after_left_bracket, after_right_bracket, after_comma, after_colon}
 
-pub bind_all : {A B : Type 0} (P : A → Type 0) (Q : B → Type 0) (o : Option A) (f : A → Option B) → IfSome o P → ((x : A) → P x → IfSome (f x) Q) → IfSome (o >>= f) Q
+pub bind_all : {A B : Type 0} (P : A → Type 0) (Q : B → Type 0) (o : Option A) (f : A → Option B) → IfSome o P
+    → ((x : A) → P x → IfSome (f x) Q) → IfSome (o >>= f) Q
 bind_all P Q None f h g = tt
 bind_all P Q (Some x) f h g = g x h
 
 -- a test, whose outcome the branches know
-pub if_all : {A : Type 0} (P : A → Type 0) (b : Bool) (x y : Option A) → (b ≡ true → IfSome x P) → (b ≡ false → IfSome y P) → IfSome (if b then x else y) P
+pub if_all : {A : Type 0} (P : A → Type 0) (b : Bool) (x y : Option A) → (b ≡ true → IfSome x P) → (b ≡ false → IfSome y P)
+    → IfSome (if b then x else y) P
 if_all P true x y g h = g refl
 if_all P false x y g h = h refl
 

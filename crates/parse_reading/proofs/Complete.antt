@@ -64,7 +64,8 @@ pub record IsInfix (a : Punct) (b : BinaryOp) (l : ℕ) : Type 0 where
   pub last_is : last (suc l) ≡ l
   pub low : l ≤ 12
 
-found_at : (a : Punct) (b c : BinaryOp) (l m : ℕ) → IsInfix a b l → ◌≡◌ {A = Option (BinaryOp × ℕ)} (Some (b, l)) (Some (c, m)) → IsInfix a c m
+found_at : (a : Punct) (b c : BinaryOp) (l m : ℕ) → IsInfix a b l → ◌≡◌ {A = Option (BinaryOp × ℕ)} (Some (b, l)) (Some (c, m))
+    → IsInfix a c m
 found_at a b c l m h e = let both : ◌≡◌ {A = BinaryOp × ℕ} (b, l) (c, m) = cc in subst (λ p. IsInfix a p.0 p.1) both h
 
 pub infix_of : (a : Punct) (b : BinaryOp) (l : ℕ) → binary_operator a ≡ Some (b, l) → IsInfix a b l
@@ -114,23 +115,33 @@ members _ b e = cc
 
 -- what holds of an operator before its operand
 pub record IsPrefix (a : Punct) (b : PrefixOp) (l : ℕ) : Type 0 where
-  pub no_paren : (n : ℕ) (sub : ℕ → List Lexeme → Option (Read Expr)) (o : Token) (t : List Lexeme) → prefix n sub (at (k.Punct a) o ∷ t) ≡ prefixed_by n sub b l o.place t
+  pub no_paren : (n : ℕ) (sub : ℕ → List Lexeme → Option (Read Expr)) (o : Token) (t : List Lexeme)
+      → prefix n sub (at (k.Punct a) o ∷ t) ≡ prefixed_by n sub b l o.place t
   pub last_is : last l ≡ 3
   pub low : l ≤ 3
 
-prefix_found : (a : Punct) (b c : PrefixOp) (l m : ℕ) → IsPrefix a b l → ◌≡◌ {A = Option (PrefixOp × ℕ)} (Some (b, l)) (Some (c, m)) → IsPrefix a c m
+prefix_found : (a : Punct) (b c : PrefixOp) (l m : ℕ) → IsPrefix a b l → ◌≡◌ {A = Option (PrefixOp × ℕ)} (Some (b, l)) (Some (c, m))
+    → IsPrefix a c m
 prefix_found a b c l m h e = let both : ◌≡◌ {A = PrefixOp × ℕ} (b, l) (c, m) = cc in subst (λ p. IsPrefix a p.0 p.1) both h
 
 pub prefix_of : (a : Punct) (b : PrefixOp) (l : ℕ) → prefix_operator a ≡ Some (b, l) → IsPrefix a b l
 unfolding prefix prefixed_by
-prefix_of p.PlusPlus b l e = prefix_found p.PlusPlus prefix_op.Increment b 2 l (record { no_paren = λ n sub o t. refl; last_is = refl; low = omega arith }) e
-prefix_of p.MinusMinus b l e = prefix_found p.MinusMinus prefix_op.Decrement b 2 l (record { no_paren = λ n sub o t. refl; last_is = refl; low = omega arith }) e
-prefix_of p.Ampersand b l e = prefix_found p.Ampersand prefix_op.Address b 3 l (record { no_paren = λ n sub o t. refl; last_is = refl; low = omega arith }) e
-prefix_of p.Star b l e = prefix_found p.Star prefix_op.Indirection b 3 l (record { no_paren = λ n sub o t. refl; last_is = refl; low = omega arith }) e
-prefix_of p.Plus b l e = prefix_found p.Plus prefix_op.Plus b 3 l (record { no_paren = λ n sub o t. refl; last_is = refl; low = omega arith }) e
-prefix_of p.Minus b l e = prefix_found p.Minus prefix_op.Minus b 3 l (record { no_paren = λ n sub o t. refl; last_is = refl; low = omega arith }) e
-prefix_of p.Tilde b l e = prefix_found p.Tilde prefix_op.BitNot b 3 l (record { no_paren = λ n sub o t. refl; last_is = refl; low = omega arith }) e
-prefix_of p.Exclamation b l e = prefix_found p.Exclamation prefix_op.Not b 3 l (record { no_paren = λ n sub o t. refl; last_is = refl; low = omega arith }) e
+prefix_of p.PlusPlus b l e =
+    prefix_found p.PlusPlus prefix_op.Increment b 2 l (record { no_paren = λ n sub o t. refl; last_is = refl; low = omega arith }) e
+prefix_of p.MinusMinus b l e =
+    prefix_found p.MinusMinus prefix_op.Decrement b 2 l (record { no_paren = λ n sub o t. refl; last_is = refl; low = omega arith }) e
+prefix_of p.Ampersand b l e =
+    prefix_found p.Ampersand prefix_op.Address b 3 l (record { no_paren = λ n sub o t. refl; last_is = refl; low = omega arith }) e
+prefix_of p.Star b l e =
+    prefix_found p.Star prefix_op.Indirection b 3 l (record { no_paren = λ n sub o t. refl; last_is = refl; low = omega arith }) e
+prefix_of p.Plus b l e =
+    prefix_found p.Plus prefix_op.Plus b 3 l (record { no_paren = λ n sub o t. refl; last_is = refl; low = omega arith }) e
+prefix_of p.Minus b l e =
+    prefix_found p.Minus prefix_op.Minus b 3 l (record { no_paren = λ n sub o t. refl; last_is = refl; low = omega arith }) e
+prefix_of p.Tilde b l e =
+    prefix_found p.Tilde prefix_op.BitNot b 3 l (record { no_paren = λ n sub o t. refl; last_is = refl; low = omega arith }) e
+prefix_of p.Exclamation b l e =
+    prefix_found p.Exclamation prefix_op.Not b 3 l (record { no_paren = λ n sub o t. refl; last_is = refl; low = omega arith }) e
 prefix_of _ b l e = cc
 
 -- ---- What an expression begins with

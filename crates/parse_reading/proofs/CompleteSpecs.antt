@@ -39,12 +39,14 @@ module _ (n : ℕ) (sub : ℕ → List Lexeme → Option (Read Expr)) (full : Re
     no_value : begins_assign t ≡ false
     value_ends : Ends g.conditional t
 
-  enumerator_plain : (o : Token) (t : List Lexeme) → begins_assign t ≡ false → enumerator_behind sub o t ≡ Some (found (roll-Enumerator (record { name = identifier o; value = None })) 0 t)
+  enumerator_plain : (o : Token) (t : List Lexeme) → begins_assign t ≡ false →
+      enumerator_behind sub o t ≡ Some (found (roll-Enumerator (record { name = identifier o; value = None })) 0 t)
   enumerator_plain o [] e = refl
   enumerator_plain o (at (k.Punct p.Assign) q ∷ t) e = cc
   enumerator_plain o (at _ q ∷ t) e = refl
 
-  enumerator_reads : {h : ℕ} {s t : List Lexeme} {x : Enumerator} → IsEnumerator s x h t → h ≤ n → EndsEnumerator t → enumerator sub s ≡ Some (found x h t)
+  enumerator_reads : {h : ℕ} {s t : List Lexeme} {x : Enumerator} → IsEnumerator s x h t → h ≤ n → EndsEnumerator t →
+      enumerator sub s ≡ Some (found x h t)
   unfolding enumerator_valued
   enumerator_reads (g.enumerator {o = o} {t = t}) low ends = enumerator_plain o t ends.no_value
   enumerator_reads (g.enumerator_valued d) low ends = rw (full _ _ _ _ _ d low ends.value_ends) refl
@@ -56,36 +58,45 @@ module _ (n : ℕ) (sub : ℕ → List Lexeme → Option (Read Expr)) (full : Re
   brace_ends o t = record { no_value = refl; value_ends = record { stops = omega arith; last = omega arith } }
 
   -- another enumerator behind a comma
-  comma_is : (later : List Lexeme → Option (Read (List Enumerator))) (x : Read Enumerator) {h : ℕ} {s t : List Lexeme} {y : Enumerator} → IsEnumerator s y h t →
+  comma_is : (later : List Lexeme → Option (Read (List Enumerator))) (x : Read Enumerator) {h : ℕ} {s t : List Lexeme} {y : Enumerator} →
+      IsEnumerator s y h t →
       enumerators_comma sub later x s ≡ prepended (x.tree ∷ []) x.height (later s)
   comma_is later x g.enumerator = refl
   comma_is later x (g.enumerator_valued d) = refl
 
-  commas_are : (later : List Lexeme → Option (Read (List Enumerator))) (x : Read Enumerator) {h : ℕ} {s t : List Lexeme} {ys : List Enumerator} → AreEnumerators s ys h t →
+  commas_are : (later : List Lexeme → Option (Read (List Enumerator)))
+      (x : Read Enumerator) {h : ℕ} {s t : List Lexeme} {ys : List Enumerator} → AreEnumerators s ys h t →
       enumerators_comma sub later x s ≡ prepended (x.tree ∷ []) x.height (later s)
   commas_are later x (g.last_enumerator d) = comma_is later x d
   commas_are later x (g.last_enumerator_comma d) = comma_is later x d
   commas_are later x (g.more_enumerators d f) = comma_is later x d
 
-  enumerators_read : (m : ℕ) {h : ℕ} {s t : List Lexeme} {xs : List Enumerator} → AreEnumerators s xs h t → h ≤ n → length s ≤ m → enumerators sub m s ≡ Some (found xs h t)
+  enumerators_read : (m : ℕ) {h : ℕ} {s t : List Lexeme} {xs : List Enumerator} → AreEnumerators s xs h t → h ≤ n → length s ≤ m →
+      enumerators sub m s ≡ Some (found xs h t)
   unfolding enumerators
   enumerators_read zero (g.last_enumerator d) low room = absurd (omega (arith, alike_shorter (enumerator_moves d []).1))
   enumerators_read zero (g.last_enumerator_comma d) low room = absurd (omega (arith, alike_shorter (enumerator_moves d []).1))
   enumerators_read zero (g.more_enumerators d f) low room = absurd (omega (arith, alike_shorter (enumerator_moves d []).1))
   enumerators_read (suc m) (g.last_enumerator {o = o} {t = t} d) low room = rw (enumerator_reads d low (brace_ends o t)) refl
-  enumerators_read (suc m) (g.last_enumerator_comma {o = o} {q = q} {t = t} d) low room = rw (enumerator_reads d low (comma_ends o (at (k.Punct p.RightBrace) q ∷ t))) refl
+  enumerators_read (suc m) (g.last_enumerator_comma {o = o} {q = q} {t = t} d) low room =
+      rw (enumerator_reads d low (comma_ends o (at (k.Punct p.RightBrace) q ∷ t))) refl
   enumerators_read (suc m) (g.more_enumerators {h = h} {o = o} {t = t} {x = x} d f) low room =
       rw (enumerator_reads d (omega arith) (comma_ends o t))
-      (commas_are (enumerators sub m) (found x h (at (k.Punct p.Comma) o ∷ t)) f ∙ rw (enumerators_read m f (omega arith) (omega (arith, alike_shorter (enumerator_moves d []).1))) refl)
+      (commas_are (enumerators sub m) (found x h (at (k.Punct p.Comma) o ∷ t)) f
+      ∙ rw (enumerators_read m f (omega arith) (omega (arith, alike_shorter (enumerator_moves d []).1))) refl)
 
   module _ (deep : List Lexeme → Option (Read Named)) (deep_full : ReadsNamed n deep) where
-    declarators_read : (m : ℕ) {h : ℕ} {s t : List Lexeme} {xs : List Declarator} → AreDeclarators s xs h t → h ≤ n → length s ≤ m → declarators deep m s ≡ Some (found xs h t)
+    declarators_read : (m : ℕ) {h : ℕ} {s t : List Lexeme} {xs : List Declarator} → AreDeclarators s xs h t → h ≤ n → length s ≤ m →
+        declarators deep m s ≡ Some (found xs h t)
     unfolding declarators
     declarators_read zero (g.last_declarator d) low room = absurd (omega (arith, alike_shorter (declarator_moves d []).1))
     declarators_read zero (g.more_declarators d f) low room = absurd (omega (arith, alike_shorter (declarator_moves d []).1))
     declarators_read (suc m) (g.last_declarator d) low room = rw (deep_full _ _ _ _ _ d low refl) refl
     declarators_read (suc m) (g.more_declarators d f) low room =
-        rw (deep_full _ _ _ _ _ d (omega arith) refl, declarators_read m f (omega arith) (omega (arith, alike_shorter (declarator_moves d []).1))) refl
+        rw (
+          deep_full _ _ _ _ _ d (omega arith) refl,
+          declarators_read m f (omega arith) (omega (arith, alike_shorter (declarator_moves d []).1)),
+        ) refl
 
     declarators_end_specs : {h : ℕ} {s t : List Lexeme} {xs : List Declarator} → AreDeclarators s xs h t → EndsSpecs s
     declarators_end_specs (g.last_declarator d) = declarator_ends_specs d
@@ -95,9 +106,13 @@ module _ (n : ℕ) (sub : ℕ → List Lexeme → Option (Read Expr)) (full : Re
       member_reads : {h : ℕ} {s t : List Lexeme} {x : MemberDecl} → IsMember s x h t → h ≤ n → member_decl deep one s ≡ Some (found x h t)
       unfolding member_decl
       member_reads (g.member_decl {t = t} d f) low =
-          rw (specs_read outer n one one_full d (omega arith) (declarators_end_specs f), declarators_read (length t) f (omega arith) (omega arith)) refl
+          rw (
+            specs_read outer n one one_full d (omega arith) (declarators_end_specs f),
+            declarators_read (length t) f (omega arith) (omega arith),
+          ) refl
 
-      members_more : (later : List Lexeme → Option (Read (List MemberDecl))) (x : Read MemberDecl) (t : List Lexeme) → begins_spec t ≡ true →
+      members_more : (later : List Lexeme → Option (Read (List MemberDecl))) (x : Read MemberDecl) (t : List Lexeme) →
+          begins_spec t ≡ true →
           members_behind deep one later x t ≡ prepended (x.tree ∷ []) x.height (later t)
       members_more later x [] e = refl
       members_more later x (at (k.Punct p.RightBrace) o ∷ t) e = cc
@@ -110,14 +125,16 @@ module _ (n : ℕ) (sub : ℕ → List Lexeme → Option (Read Expr)) (full : Re
       members_begin (g.last_member d) = member_begins d
       members_begin (g.more_members d f) = member_begins d
 
-      members_read : (m : ℕ) {h : ℕ} {s t : List Lexeme} {xs : List MemberDecl} → AreMembers s xs h t → h ≤ n → length s ≤ m → members deep one m s ≡ Some (found xs h t)
+      members_read : (m : ℕ) {h : ℕ} {s t : List Lexeme} {xs : List MemberDecl} → AreMembers s xs h t → h ≤ n → length s ≤ m →
+          members deep one m s ≡ Some (found xs h t)
       unfolding members
       members_read zero (g.last_member d) low room = absurd (omega (arith, alike_shorter (member_moves d []).1))
       members_read zero (g.more_members d f) low room = absurd (omega (arith, alike_shorter (member_moves d []).1))
       members_read (suc m) (g.last_member d) low room = rw (member_reads d low) refl
       members_read (suc m) (g.more_members {h = h} {t = t} {x = x} d f) low room =
           rw (member_reads d (omega arith))
-          (members_more (members deep one m) (found x h t) t (members_begin f) ∙ rw (members_read m f (omega arith) (omega (arith, alike_shorter (member_moves d []).1))) refl)
+          (members_more (members deep one m) (found x h t) t (members_begin f)
+          ∙ rw (members_read m f (omega arith) (omega (arith, alike_shorter (member_moves d []).1))) refl)
 
       -- ---- Specifiers
 
@@ -138,7 +155,8 @@ module _ (n : ℕ) (sub : ℕ → List Lexeme → Option (Read Expr)) (full : Re
       aggregate_is w.Union a o t e = let same : aggregate.Union ≡ a = cc in ap (λ a. aggregate_spec sub deep one a o.place t) same
       aggregate_is _ a o t e = cc
 
-      tag_is : (a : Aggregate) (b : Terminal) (place : Place) (q : Token) (t : List Lexeme) → is_tag b ≡ true → aggregate_spec sub deep one a place (at b q ∷ t) ≡ tagged_behind sub deep one a place q t
+      tag_is : (a : Aggregate) (b : Terminal) (place : Place) (q : Token) (t : List Lexeme) → is_tag b ≡ true →
+          aggregate_spec sub deep one a place (at b q ∷ t) ≡ tagged_behind sub deep one a place q t
       tag_is a k.Name place q t e = refl
       tag_is a k.Type place q t e = refl
       tag_is a _ place q t e = cc
@@ -149,17 +167,20 @@ module _ (n : ℕ) (sub : ℕ → List Lexeme → Option (Read Expr)) (full : Re
       no_body_is a place q (at (k.Punct p.LeftBrace) o ∷ t) e = cc
       no_body_is a place q (at _ o ∷ t) e = refl
 
-      enum_tag_is : (b : Terminal) (place : Place) (q : Token) (t : List Lexeme) → is_tag b ≡ true → enum_spec sub deep one place (at b q ∷ t) ≡ enum_behind sub deep one place q t
+      enum_tag_is : (b : Terminal) (place : Place) (q : Token) (t : List Lexeme) → is_tag b ≡ true →
+          enum_spec sub deep one place (at b q ∷ t) ≡ enum_behind sub deep one place q t
       enum_tag_is k.Name place q t e = refl
       enum_tag_is k.Type place q t e = refl
       enum_tag_is _ place q t e = cc
 
-      no_list_is : (place : Place) (q : Token) (t : List Lexeme) → begins_brace t ≡ false → enum_behind sub deep one place q t ≡ one_of (spec.EnumTag (identifier q) place) whole_type 1 t
+      no_list_is : (place : Place) (q : Token) (t : List Lexeme) → begins_brace t ≡ false →
+          enum_behind sub deep one place q t ≡ one_of (spec.EnumTag (identifier q) place) whole_type 1 t
       no_list_is place q [] e = refl
       no_list_is place q (at (k.Punct p.LeftBrace) o ∷ t) e = cc
       no_list_is place q (at _ o ∷ t) e = refl
 
-      spec_by_reads : {a : Tally} {h : ℕ} {s t : List Lexeme} {x : Spec} → IsSpec outer s x a h t → h ≤ suc n → begins_brace t ≡ false → spec_by sub deep one s ≡ one_of x a h t
+      spec_by_reads : {a : Tally} {h : ℕ} {s t : List Lexeme} {x : Spec} → IsSpec outer s x a h t → h ≤ suc n → begins_brace t ≡ false →
+          spec_by sub deep one s ≡ one_of x a h t
       unfolding untagged tagged enum_untagged enum_tagged
       spec_by_reads g.spec_typedef low e = refl
       spec_by_reads g.spec_extern low e = refl
@@ -167,7 +188,8 @@ module _ (n : ℕ) (sub : ℕ → List Lexeme → Option (Read Expr)) (full : Re
       spec_by_reads g.spec_inline low e = refl
       spec_by_reads g.spec_const low e = refl
       spec_by_reads (g.spec_attributes d) low e = list_is_plain d ∙ plain_reads {c = inner} (g.spec_attributes d) refl
-      spec_by_reads (g.spec_basic {word = word} {x = x} {a = a} {o = o} {t = t} f) low e = basic_is_plain word (x, a) o t f ∙ plain_reads {c = inner} (g.spec_basic {o = o} f) refl
+      spec_by_reads (g.spec_basic {word = word} {x = x} {a = a} {o = o} {t = t} f) low e =
+          basic_is_plain word (x, a) o t f ∙ plain_reads {c = inner} (g.spec_basic {o = o} f) refl
       spec_by_reads g.spec_type low e = refl
       spec_by_reads (g.spec_tag {word = word} {a = a} {b = b} {o = o} {q = q} {t = t} f tag) low e =
           aggregate_is word a o (at b q ∷ t) f ∙ tag_is a b o.place q t tag ∙ no_body_is a o.place q t e
@@ -188,4 +210,5 @@ spec_higher _ = omega arith
 pub outer_spec_reads : (n : ℕ) → ReadsSpecs outer n (outer_spec n)
 unfolding outer_spec
 outer_spec_reads zero a h s t x d low e = absurd (omega (arith, spec_higher d))
-outer_spec_reads (suc n) a h s t x d low e = spec_by_reads n (expression n) (expression_reads n) (declarator n) (declarator_reads n) (outer_spec n) (outer_spec_reads n) d low e
+outer_spec_reads (suc n) a h s t x d low e =
+    spec_by_reads n (expression n) (expression_reads n) (declarator n) (declarator_reads n) (outer_spec n) (outer_spec_reads n) d low e

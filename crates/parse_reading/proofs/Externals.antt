@@ -42,45 +42,63 @@ pub record FoundExternal (limit : ℕ) (a : List Lexeme) (r : Read NamedExternal
 
 -- ---- What is read is in the grammar
 
-header_sound : (n : ℕ) (o : Token) (t : List Lexeme) (kind : TokenKind) → o.kind ≡ kind → IfSome (header_read kind o.place t) (FoundExternal (suc n) (at k.Header o ∷ t))
+header_sound : (n : ℕ) (o : Token) (t : List Lexeme) (kind : TokenKind) → o.kind ≡ kind →
+    IfSome (header_read kind o.place t) (FoundExternal (suc n) (at k.Header o ∷ t))
 header_sound n o t (kind.Header id) e = record { derives = f.header e; low = omega arith }
 header_sound n o t _ e = tt
 
 module _ (n : ℕ) where
-  declared_sound : (a : List Lexeme) (xs : Read Specs) → AreCounted outer a xs → IfSome (declared n (place_of a) xs xs.rest) (FoundExternal (suc n) a)
+  declared_sound : (a : List Lexeme) (xs : Read Specs) → AreCounted outer a xs →
+      IfSome (declared n (place_of a) xs xs.rest) (FoundExternal (suc n) a)
   unfolding declared
   declared_sound a xs d =
       bind_all _ _ (init_declarators (declarator n) (initialiser n) (length xs.rest) xs.rest) _
       (init_declarators_sound (declarator n) (declarator_sound n) (initialiser n) (initialiser_sound n) (length xs.rest) xs.rest) (λ ys i.
-      if_all _ (nat_le (suc (max xs.height ys.height)) (suc n)) _ _ (λ low. record { derives = f.declaration d.derives i.derives; low = leb-true _ _ low }) (λ _. tt))
+      if_all _ (nat_le (suc (max xs.height ys.height)) (suc n)) _ _
+      (λ low. record { derives = f.declaration d.derives i.derives; low = leb-true _ _ low }) (λ _. tt))
 
-  body_sound : (a : List Lexeme) (xs : Read Specs) (y : Read Named) (o : Token) (u : List Lexeme) → AreCounted outer a xs → IsDeclarator xs.rest y.tree.tree y.tree.declared y.height (at (k.Punct p.LeftBrace) o ∷ u) →
+  body_sound : (a : List Lexeme) (xs : Read Specs) (y : Read Named) (o : Token) (u : List Lexeme) → AreCounted outer a xs →
+      IsDeclarator xs.rest y.tree.tree y.tree.declared y.height (at (k.Punct p.LeftBrace) o ∷ u) →
       IfSome (body n (place_of a) xs y o.place u) (FoundExternal (suc n) a)
   unfolding body
   body_sound a xs y o u d i =
       bind_all _ _ (items (expression n) (local (declarator n) (initialiser n)) (statement n) (length u) u) _
-      (items_sound n (expression n) (expression_sound n) (local (declarator n) (initialiser n)) (local_sound_at n) (statement n) (statement_sound n) (length u) u) (λ zs j.
-      if_all _ (nat_le (suc (max xs.height (max y.height (suc zs.height)))) (suc n)) _ _ (λ low. record { derives = f.function d.derives i j.derives; low = leb-true _ _ low }) (λ _. tt))
+      (items_sound n (expression n) (expression_sound n) (local (declarator n) (initialiser n)) (local_sound_at n) (statement n)
+      (statement_sound n) (length u) u) (λ zs j.
+      if_all _ (nat_le (suc (max xs.height (max y.height (suc zs.height)))) (suc n)) _ _
+      (λ low. record { derives = f.function d.derives i j.derives; low = leb-true _ _ low }) (λ _. tt))
 
-  body_or_sound : (a : List Lexeme) (xs : Read Specs) (y : Read Named) (u : List Lexeme) → AreCounted outer a xs → IsDeclarator xs.rest y.tree.tree y.tree.declared y.height u →
+  body_or_sound : (a : List Lexeme) (xs : Read Specs) (y : Read Named) (u : List Lexeme) → AreCounted outer a xs →
+      IsDeclarator xs.rest y.tree.tree y.tree.declared y.height u →
       IfSome (body_or n (place_of a) xs xs.rest y u) (FoundExternal (suc n) a)
   body_or_sound a xs y [] d i = declared_sound a xs d
   body_or_sound a xs y (at (k.Punct p.LeftBrace) o ∷ u) d i = body_sound a xs y o u d i
   body_or_sound a xs y (o ∷ u) d i = declared_sound a xs d
 
-  declaration_sound : (a : List Lexeme) (xs : Read Specs) → AreCounted outer a xs → IfSome (declaration n (place_of a) xs xs.rest) (FoundExternal (suc n) a)
+  declaration_sound : (a : List Lexeme) (xs : Read Specs) → AreCounted outer a xs →
+      IfSome (declaration n (place_of a) xs xs.rest) (FoundExternal (suc n) a)
   unfolding declaration
-  declaration_sound a xs d = bind_all _ _ (declarator n xs.rest) _ (declarator_sound n xs.rest) (λ y i. body_or_sound a xs y y.rest d i.derives)
+  declaration_sound a xs d =
+      bind_all _ _ (declarator n xs.rest) _ (declarator_sound n xs.rest) (λ y i. body_or_sound a xs y y.rest d i.derives)
 
-  behind_sound : (a : List Lexeme) (xs : Read Specs) (t : List Lexeme) → xs.rest ≡ t → AreCounted outer a xs → IfSome (external_behind n (place_of a) xs t) (FoundExternal (suc n) a)
-  behind_sound a xs [] same d = subst (λ l. IfSome (declaration n (place_of a) xs l) (FoundExternal (suc n) a)) same (declaration_sound a xs d)
+  behind_sound : (a : List Lexeme) (xs : Read Specs) (t : List Lexeme) → xs.rest ≡ t → AreCounted outer a xs →
+      IfSome (external_behind n (place_of a) xs t) (FoundExternal (suc n) a)
+  behind_sound a xs [] same d =
+      subst (λ l. IfSome (declaration n (place_of a) xs l) (FoundExternal (suc n) a)) same (declaration_sound a xs d)
   behind_sound a xs (at (k.Punct p.Semicolon) o ∷ t) same d =
-      if_all _ (nat_le (suc xs.height) (suc n)) _ _ (λ low. record { derives = f.undeclared (subst (AreSpecs outer a xs.tree.specs xs.tree.tally xs.height) same d.derives); low = leb-true _ _ low }) (λ _. tt)
-  behind_sound a xs (o ∷ t) same d = subst (λ l. IfSome (declaration n (place_of a) xs l) (FoundExternal (suc n) a)) same (declaration_sound a xs d)
+      if_all _ (nat_le (suc xs.height) (suc n)) _ _
+      (λ low. record {
+        derives = f.undeclared (subst (AreSpecs outer a xs.tree.specs xs.tree.tally xs.height) same d.derives);
+        low = leb-true _ _ low;
+      }) (λ _. tt)
+  behind_sound a xs (o ∷ t) same d =
+      subst (λ l. IfSome (declaration n (place_of a) xs l) (FoundExternal (suc n) a)) same (declaration_sound a xs d)
 
   specified_sound : (a : List Lexeme) → IfSome (specified n a) (FoundExternal (suc n) a)
   unfolding specified
-  specified_sound a = bind_all _ _ (specs_in (outer_spec n) outer a) _ (specs_in_sound outer (outer_spec n) (outer_spec_sound n) a) (λ xs d. behind_sound a xs xs.rest refl d)
+  specified_sound a =
+      bind_all _ _ (specs_in (outer_spec n) outer a) _ (specs_in_sound outer (outer_spec n) (outer_spec_sound n) a)
+      (λ xs d. behind_sound a xs xs.rest refl d)
 
 pub external_sound : (n : ℕ) (a : List Lexeme) → IfSome (external n a) (FoundExternal (suc n) a)
 external_sound n [] = specified_sound n []
@@ -110,11 +128,33 @@ record Quiet (t : List Lexeme) : Type 0 where
   stops : cd.goes_on t ≡ false
   no_body : begins_brace t ≡ false
 
-first_of_one : (n : ℕ) {h : ℕ} {a t : List Lexeme} {x : InitDeclarator} {c : Declared} → IsInitDeclarator a x c h t → h ≤ n → Quiet t → First n a
-first_of_one n (g.uninitialised d i) low q = record { tree = _; declares = _; height = _; rest = _; derives = d; low = low; stops = lists_stop i q.stops; no_body = lists_no_body i q.no_body }
-first_of_one n (g.initialised d i j) low q = record { tree = _; declares = _; height = _; rest = _; derives = d; low = omega arith; stops = lists_stop i refl; no_body = lists_no_body i refl }
+first_of_one : (n : ℕ) {h : ℕ} {a t : List Lexeme} {x : InitDeclarator} {c : Declared} → IsInitDeclarator a x c h t → h ≤ n →
+    Quiet t → First n a
+first_of_one n (g.uninitialised d i) low q =
+    record {
+      tree = _;
+      declares = _;
+      height = _;
+      rest = _;
+      derives = d;
+      low = low;
+      stops = lists_stop i q.stops;
+      no_body = lists_no_body i q.no_body;
+    }
+first_of_one n (g.initialised d i j) low q =
+    record {
+      tree = _;
+      declares = _;
+      height = _;
+      rest = _;
+      derives = d;
+      low = omega arith;
+      stops = lists_stop i refl;
+      no_body = lists_no_body i refl;
+    }
 
-first_of_all : (n : ℕ) {h : ℕ} {a t : List Lexeme} {xs : List InitDeclarator} {cs : List Declared} → AreInitDeclarators a xs cs h t → h ≤ n → First n a
+first_of_all : (n : ℕ) {h : ℕ} {a t : List Lexeme} {xs : List InitDeclarator} {cs : List Declared} → AreInitDeclarators a xs cs h t →
+    h ≤ n → First n a
 first_of_all n (g.last_init_declarator d) low = first_of_one n d low (record { stops = refl; no_body = refl })
 first_of_all n (g.more_init_declarators d i) low = first_of_one n d (omega arith) (record { stops = refl; no_body = refl })
 
@@ -123,12 +163,14 @@ begins_semicolon (at (k.Punct p.Semicolon) o ∷ t) = true
 begins_semicolon _ = false
 
 module _ (n : ℕ) where
-  no_body_is : (place : Place) (xs : Read Specs) (t : List Lexeme) (y : Read Named) (u : List Lexeme) → begins_brace u ≡ false → body_or n place xs t y u ≡ declared n place xs t
+  no_body_is : (place : Place) (xs : Read Specs) (t : List Lexeme) (y : Read Named) (u : List Lexeme) → begins_brace u ≡ false →
+      body_or n place xs t y u ≡ declared n place xs t
   no_body_is place xs t y [] e = refl
   no_body_is place xs t y (at (k.Punct p.LeftBrace) o ∷ u) e = cc
   no_body_is place xs t y (at _ o ∷ u) e = refl
 
-  some_is : (place : Place) (xs : Read Specs) (t : List Lexeme) → begins_semicolon t ≡ false → external_behind n place xs t ≡ declaration n place xs t
+  some_is : (place : Place) (xs : Read Specs) (t : List Lexeme) → begins_semicolon t ≡ false →
+      external_behind n place xs t ≡ declaration n place xs t
   some_is place xs [] e = refl
   some_is place xs (at (k.Punct p.Semicolon) o ∷ t) e = cc
   some_is place xs (at _ o ∷ t) e = refl
@@ -148,11 +190,16 @@ module _ (n : ℕ) where
   specified_is (at k.Header o ∷ t) e = cc
   specified_is (at _ o ∷ t) e = refl
 
-  external_reads_at : {h : ℕ} {a t : List Lexeme} {x : External} {names : List (List ℕ)} → IsExternal a x names h t → h ≤ suc n → external n a ≡ Some (found (as_external x names) h t)
+  external_reads_at : {h : ℕ} {a t : List Lexeme} {x : External} {names : List (List ℕ)} → IsExternal a x names h t → h ≤ suc n →
+      external n a ≡ Some (found (as_external x names) h t)
   unfolding specified declaration declared body
   external_reads_at (f.header e) low = rw e refl
   external_reads_at (f.undeclared {h = h} {a = a} d) low =
-      specified_is a (specs_begin d) ∙ rw (specs_read outer n (outer_spec n) (outer_spec_reads n) d (omega arith) (record { no_spec = refl; no_body = refl }), le-leb (suc h) (suc n) low) refl
+      specified_is a (specs_begin d) ∙ rw (
+        specs_read outer n (outer_spec n) (outer_spec_reads n) d (omega arith)
+            (record { no_spec = refl; no_body = refl }),
+        le-leb (suc h) (suc n) low,
+      ) refl
   external_reads_at (f.declaration {h = h} {j = j} {a = a} {t = t} {xs = xs} {tally = tally} d i) low =
       let one : First n t = first_of_all n i (omega arith) in
       let ends : EndsSpecs t = declarator_ends_specs one.derives in
@@ -163,7 +210,11 @@ module _ (n : ℕ) where
       (some_is (place_of a) found_specs t (declarator_some one.derives)
       ∙ rw (declarator_reads n _ _ _ _ _ one.derives one.low one.stops)
       (no_body_is (place_of a) found_specs t named one.rest one.no_body
-      ∙ rw (init_declarators_read n (declarator n) (declarator_reads n) (initialiser n) (initialiser_reads n) (length t) i (omega arith) (omega arith), le-leb (suc (max h j)) (suc n) low) refl))
+      ∙ rw (
+        init_declarators_read n (declarator n) (declarator_reads n) (initialiser n) (initialiser_reads n) (length t) i (omega arith)
+            (omega arith),
+        le-leb (suc (max h j)) (suc n) low,
+      ) refl))
   external_reads_at (f.function {h = h} {j = j} {m = m} {a = a} {t = t} {u = u} {xs = xs} {tally = tally} d i b) low =
       let ends : EndsSpecs t = declarator_ends_specs i in
       specified_is a (specs_begin d)
@@ -171,9 +222,11 @@ module _ (n : ℕ) where
       (some_is (place_of a) (found (record { specs = xs; tally = tally }) h t) t (declarator_some i)
       ∙ rw (
         declarator_reads n _ _ _ _ _ i (omega arith) refl,
-        items_read n (expression n) (expression_reads n) (local (declarator n) (initialiser n)) (local_reads_at n) (statement n) (statement_reads n) (length u) b (omega arith) (omega arith),
+        items_read n (expression n) (expression_reads n) (local (declarator n) (initialiser n)) (local_reads_at n) (statement n)
+            (statement_reads n) (length u) b (omega arith) (omega arith),
         le-leb (suc (max h (max j (suc m)))) (suc n) low,
       ) refl)
 
-pub external_reads : (n h : ℕ) (a t : List Lexeme) (x : External) (names : List (List ℕ)) → IsExternal a x names h t → h ≤ suc n → external n a ≡ Some (found (as_external x names) h t)
+pub external_reads : (n h : ℕ) (a t : List Lexeme) (x : External) (names : List (List ℕ)) → IsExternal a x names h t → h ≤ suc n →
+    external n a ≡ Some (found (as_external x names) h t)
 external_reads n h a t x names d low = external_reads_at n d low

@@ -32,7 +32,8 @@ record Same (types : List (List ℕ)) (s : List Token) (x : External) (names : L
   read : external highest_part (map (lexeme types) s) ≡ Some (found (as_external x names) height (map (lexeme types) t))
   rest : drop (length s - length (map (lexeme types) t)) s ≡ t
 
-derives_whole : (types names : List (List ℕ)) (s t : List Token) (x : External) (b : Begins types s x names t) → IsExternal (map (lexeme types) s) x names b.height (map (lexeme types) t)
+derives_whole : (types names : List (List ℕ)) (s t : List Token) (x : External) (b : Begins types s x names t)
+    → IsExternal (map (lexeme types) s) x names b.height (map (lexeme types) t)
 derives_whole types names s t x b =
     let c = lexeme types in
     let mapped : map c s ≡ map c b.before ++ map c t = ap (map c) b.whole ∙ map-append c b.before t in
@@ -47,7 +48,12 @@ begins_read types names s t x b = record {
 
 begins_behind : (types names : List (List ℕ)) (s t : List Token) (x : External) → Begins types s x names t → length t < length s
 begins_behind types names s t x b =
-    omega (arith, alike_shorter (external_moves (derives_whole types names s t x b) []).1, length-map s (lexeme types), length-map t (lexeme types))
+    omega (
+      arith,
+      alike_shorter (external_moves (derives_whole types names s t x b) []).1,
+      length-map s (lexeme types),
+      length-map t (lexeme types),
+    )
 
 read_begins : (types : List (List ℕ)) (s : List Token) (r : Read NamedExternal) → external highest_part (map (lexeme types) s) ≡ Some r
     → Begins types s r.tree.tree r.tree.names (left s r) × (map (lexeme types) (left s r) ≡ r.rest) × (length (left s r) < length s)
@@ -60,7 +66,8 @@ read_begins types s r e =
     let same : map c (left s r) ≡ r.rest = sym (drop-map c _ s) ∙ (rw length-map at dropped) in
     let shorter : length r.rest < length s = omega (arith, b, length-map s c) in
     let many : length v.0 ≡ length s - length r.rest = omega (arith, ap length v.1, length-append v.0 r.rest, length-map s c) in
-    let front : map c (take (length v.0) s) ≡ v.0 = sym (take-map c (length v.0) s) ∙ (ap (take (length v.0)) v.1 ∙ take-append_seam v.0 r.rest) in (
+    let front : map c (take (length v.0) s) ≡ v.0 = sym (take-map c (length v.0) s)
+    ∙ (ap (take (length v.0)) v.1 ∙ take-append_seam v.0 r.rest) in (
       record {
         before = take (length v.0) s;
         whole = sym (take-append-drop (length v.0) s) ∙ ap (λ n. take (length v.0) s ++ drop n s) many;
@@ -73,20 +80,24 @@ read_begins types s r e =
     )
 
 -- one beginning of a list is the only one
-pub only : (types names others : List (List ℕ)) (s t u : List Token) (x y : External) → Begins types s x names t → Begins types s y others u →
+pub only : (types names others : List (List ℕ)) (s t u : List Token) (x y : External) → Begins types s x names t
+    → Begins types s y others u →
     (as_external x names ≡ as_external y others) × (t ≡ u)
 only types names others s t u x y b c =
     let v = begins_read types names s t x b in
     let q = begins_read types others s u y c in
     let e : found (as_external x names) v.height (map (lexeme types) t) ≡ found (as_external y others) q.height (map (lexeme types) u) =
-    (let both : ◌≡◌ {A = Option (Read NamedExternal)} (Some (found (as_external x names) v.height (map (lexeme types) t))) (Some (found (as_external y others) q.height (map (lexeme types) u))) =
+    (let both : ◌≡◌ {A = Option (Read NamedExternal)} (Some (found (as_external x names) v.height (map (lexeme types) t)))
+    (Some (found (as_external y others) q.height (map (lexeme types) u))) =
     sym v.read ∙ q.read in cc) in
     (ap (λ r. r.tree) e, sym v.rest ∙ ap (λ n. drop (length s - n) s) (ap (λ r. length r.rest) e) ∙ q.rest)
 
 first : (types names : List (List ℕ)) (s t : List Token) (x : External) → Begins types s x names t → BeginsFirst types s x names t
-first types names s t x b = record { begins = b; shortest = λ y others u c. let e = only types names others s t u x y b c in omega (arith, ap length e.1) }
+first types names s t x b =
+    record { begins = b; shortest = λ y others u c. let e = only types names others s t u x y b c in omega (arith, ap length e.1) }
 
-file_declares_by : (m : ℕ) (types : List (List ℕ)) (o : Token) (s : List Token) → (r : Option (Read NamedExternal)) → external highest_part (map (lexeme types) (o ∷ s)) ≡ r
+file_declares_by : (m : ℕ) (types : List (List ℕ)) (o : Token) (s : List Token) → (r : Option (Read NamedExternal))
+    → external highest_part (map (lexeme types) (o ∷ s)) ≡ r
     → ((types : List (List ℕ)) (t : List Token) → length t < length (o ∷ s) → Declares types t (file highest_part m types t))
     → Declares types (o ∷ s) (goes_on highest_part (file highest_part m) types o s r)
 file_declares_by m types o s None e later =
@@ -101,15 +112,19 @@ unfolding file
 file_declares m types [] room = f.end
 file_declares zero types (o ∷ s) room = absurd (omega arith)
 file_declares (suc m) types (o ∷ s) room =
-    file_declares_by m types o s (external highest_part (map (lexeme types) (o ∷ s))) refl (λ types t shorter. file_declares m types t (omega arith))
+    file_declares_by m types o s (external highest_part (map (lexeme types) (o ∷ s))) refl
+    (λ types t shorter. file_declares m types t (omega arith))
 
 -- what derives is what is read
-file_refuses : (m : ℕ) (types : List (List ℕ)) (o : Token) (s : List Token) (r : Option (Read NamedExternal)) → external highest_part (map (lexeme types) (o ∷ s)) ≡ r
-    → ((x : External) (names : List (List ℕ)) (t : List Token) → Begins types (o ∷ s) x names t → ⊥) → goes_on highest_part (file highest_part m) types o s r ≡ Err o.place
+file_refuses : (m : ℕ) (types : List (List ℕ)) (o : Token) (s : List Token) (r : Option (Read NamedExternal))
+    → external highest_part (map (lexeme types) (o ∷ s)) ≡ r
+    → ((x : External) (names : List (List ℕ)) (t : List Token) → Begins types (o ∷ s) x names t → ⊥)
+    → goes_on highest_part (file highest_part m) types o s r ≡ Err o.place
 file_refuses m types o s None e none = refl
 file_refuses m types o s (Some r) e none = absurd (none r.tree.tree r.tree.names (left (o ∷ s) r) (read_begins types (o ∷ s) r e).0)
 
-pub declares_file : (m : ℕ) (types : List (List ℕ)) (s : List Token) (out : Declarations) → Declares types s out → length s ≤ m → file highest_part m types s ≡ out
+pub declares_file : (m : ℕ) (types : List (List ℕ)) (s : List Token) (out : Declarations) → Declares types s out → length s ≤ m
+    → file highest_part m types s ≡ out
 unfolding file
 declares_file m types s out f.end room = refl
 declares_file zero types s out (f.refused none) room = refl
@@ -119,10 +134,12 @@ declares_file zero types (o ∷ s) out (f.external b d) room = absurd (omega ari
 declares_file (suc m) types (o ∷ s) out (f.external {names = names} {t = t} {x = x} {out = later} b d) room =
     let v = begins_read types names (o ∷ s) t x b.begins in
     let shorter : length t < length (o ∷ s) = begins_behind types names (o ∷ s) t x b.begins in
-    let goes : goes_on highest_part (file highest_part m) types o s (external highest_part (map (lexeme types) (o ∷ s))) ≡ behind x (file highest_part m (types ++ names) t) =
+    let goes : goes_on highest_part (file highest_part m) types o s (external highest_part (map (lexeme types) (o ∷ s)))
+    ≡ behind x (file highest_part m (types ++ names) t) =
     ap (goes_on highest_part (file highest_part m) types o s) v.read ∙ ap (λ l. behind x (file highest_part m (types ++ names) l)) v.rest in
     goes ∙ ap (behind x) (declares_file m (types ++ names) t later d (omega arith))
 
 -- A file derives one thing.
 pub declares_once : (types : List (List ℕ)) (s : List Token) (a b : Declarations) → Declares types s a → Declares types s b → a ≡ b
-declares_once types s a b d e = sym (declares_file (length s) types s a d (omega arith)) ∙ declares_file (length s) types s b e (omega arith)
+declares_once types s a b d e =
+    sym (declares_file (length s) types s a d (omega arith)) ∙ declares_file (length s) types s b e (omega arith)

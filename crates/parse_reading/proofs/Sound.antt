@@ -82,9 +82,6 @@ join_role p.OrOr b l e = cc
 join_role _ b l e = cc
 
 -- only these have the roles without an operator
-record HasPunct (c : Terminal) (a : Punct) : Type 0 where
-  is : c ≡ k.Punct a
-
 call_role : (a : Punct) → operator_of_punct a ≡ role.Call → a ≡ p.LeftParen
 call_role p.LeftParen e = refl
 call_role _ e = cc
@@ -123,15 +120,18 @@ module _ (n : ℕ) (sub : ℕ → List Lexeme → Option (Read Expr)) (sound : (
   module _ (limit : ℕ) (place : Place) where
     arrays_behind_sound : (later : Read Declarator → Option (Read Declarator)) (s : List Lexeme) →
         ((x : Read Declarator) → AreArrays place s x.tree x.height x.rest → IfSome (later x) (Found (AreArrays place) s)) →
-        (x : Read Declarator) (t : List Lexeme) → x.rest ≡ t → AreArrays place s x.tree x.height x.rest → IfSome (arrays_behind sub limit place later (place_of s) x t) (Found (AreArrays place) s)
+        (x : Read Declarator) (t : List Lexeme) → x.rest ≡ t → AreArrays place s x.tree x.height x.rest →
+        IfSome (arrays_behind sub limit place later (place_of s) x t) (Found (AreArrays place) s)
     arrays_behind_sound later s h x [] e d = record { derives = d }
     arrays_behind_sound later s h x (at (k.Punct p.LeftBracket) o ∷ t) e d =
         bind_all _ _ (bound sub t) _ (bound_sound t) (λ y f.
         if_all _ (nat_le (suc (max x.height y.height)) limit) _ _
-        (λ _. h (record { tree = _; height = _; rest = y.rest }) (g.abstract_array (subst (AreArrays place s x.tree x.height) e d) f.derives)) (λ _. tt))
+        (λ _. h (record { tree = _; height = _; rest = y.rest })
+        (g.abstract_array (subst (AreArrays place s x.tree x.height) e d) f.derives)) (λ _. tt))
     arrays_behind_sound later s h x _ e d = record { derives = d }
 
-    arrays_sound : (m : ℕ) (s : List Lexeme) (x : Read Declarator) → AreArrays place s x.tree x.height x.rest → IfSome (arrays sub limit place m (place_of s) x) (Found (AreArrays place) s)
+    arrays_sound : (m : ℕ) (s : List Lexeme) (x : Read Declarator) → AreArrays place s x.tree x.height x.rest →
+        IfSome (arrays sub limit place m (place_of s) x) (Found (AreArrays place) s)
     unfolding arrays
     arrays_sound zero s x d = arrays_behind_sound (λ x. None) s (λ x d. tt) x x.rest refl d
     arrays_sound (suc m) s x d = arrays_behind_sound (arrays sub limit place m (place_of s)) s (arrays_sound m s) x x.rest refl d
@@ -144,10 +144,16 @@ module _ (n : ℕ) (sub : ℕ → List Lexeme → Option (Read Expr)) (sound : (
         bind_all _ _ (after_right_paren s) _ (after_right_paren_sound s) (λ u close.
         bind_all _ _ (after_left_bracket u) _ (after_left_bracket_sound u) (λ v begin.
         bind_all _ _ (bound sub v) _ (bound_sound v) (λ y f.
-        record { derives = g.abstract_group (subst (λ l. AreStars t (w ∷ ws) (at (k.Punct p.RightParen) close.0 ∷ l)) begin.1 (subst (AreStars t (w ∷ ws)) close.1 d)) f.derives })))
+        record {
+          derives = g.abstract_group (subst (λ l. AreStars t (w ∷ ws) (at (k.Punct p.RightParen) close.0 ∷ l)) begin.1
+              (subst (AreStars t (w ∷ ws)) close.1 d)) f.derives;
+        })))
 
-    arrays_whole : (s : List Lexeme) → IfSome (arrays sub limit place (length s) (place_of s) (found (d.Omitted place) 1 s)) (Found (IsAbstractDirect place) s)
-    arrays_whole s = weaken _ _ (arrays sub limit place (length s) (place_of s) (found (d.Omitted place) 1 s)) (arrays_sound (length s) s _ g.omitted) (λ r f. record { derives = g.abstract_arrays f.derives })
+    arrays_whole : (s : List Lexeme) → IfSome (arrays sub limit place (length s) (place_of s) (found (d.Omitted place) 1 s))
+        (Found (IsAbstractDirect place) s)
+    arrays_whole s =
+        weaken _ _ (arrays sub limit place (length s) (place_of s) (found (d.Omitted place) 1 s)) (arrays_sound (length s) s _ g.omitted)
+        (λ r f. record { derives = g.abstract_arrays f.derives })
 
     direct_sound : (s : List Lexeme) → IfSome (abstract_direct sub limit place s) (Found (IsAbstractDirect place) s)
     direct_sound [] = arrays_whole []
@@ -157,7 +163,8 @@ module _ (n : ℕ) (sub : ℕ → List Lexeme → Option (Read Expr)) (sound : (
     pointer_sound : (o : Token) (t : List Lexeme) (ws : List PointerWord) (s : List Lexeme) → ArePointerWords t ws s →
         IfSome (abstract_pointer_of sub limit place o.place (ws, s)) (Found (IsAbstract place) (at (k.Punct p.Star) o ∷ t))
     unfolding abstract_pointer
-    pointer_sound o t ws s d = bind_all _ _ (abstract_direct sub limit place s) _ (direct_sound s) (λ x f. record { derives = g.abstract_pointer d f.derives })
+    pointer_sound o t ws s d =
+        bind_all _ _ (abstract_direct sub limit place s) _ (direct_sound s) (λ x f. record { derives = g.abstract_pointer d f.derives })
 
     plain_whole : (s : List Lexeme) → IfSome (abstract_direct sub limit place s) (Found (IsAbstract place) s)
     plain_whole s = weaken _ _ (abstract_direct sub limit place s) (direct_sound s) (λ r f. record { derives = g.abstract_plain f.derives })
@@ -172,12 +179,15 @@ module _ (n : ℕ) (sub : ℕ → List Lexeme → Option (Read Expr)) (sound : (
   type_name_sound limit s =
       bind_all _ _ (specs_in plain_spec inner s) _ (specs_in_sound inner plain_spec (plain_sound_in inner) s) (λ xs d.
       bind_all _ _ (abstract sub (suc limit) (place_of s) xs.rest) _ (abstract_sound (suc limit) (place_of s) xs.rest) (λ x f.
-      if_all _ (nat_le (suc (max xs.height x.height)) limit) _ _ (λ low. record { derives = g.type_name d.derives f.derives; low = leb-true _ _ low }) (λ _. tt)))
+      if_all _ (nat_le (suc (max xs.height x.height)) limit) _ _
+      (λ low. record { derives = g.type_name d.derives f.derives; low = leb-true _ _ low }) (λ _. tt)))
 
   -- ---- Expressions
 
-  exprs_behind_sound : (later : List Lexeme → Option (Read (List Expr))) → ((s : List Lexeme) → IfSome (later s) (FoundLow AreExprs n s)) → (s : List Lexeme) (x : Read Expr)
-      (t : List Lexeme) → IsExpr g.assignment s x.tree x.height t → x.height ≤ n → IfSome (exprs_behind n sub later x t) (FoundLow AreExprs n s)
+  exprs_behind_sound : (later : List Lexeme → Option (Read (List Expr))) → ((s : List Lexeme) → IfSome (later s) (FoundLow AreExprs n s)) →
+      (s : List Lexeme) (x : Read Expr)
+      (t : List Lexeme) → IsExpr g.assignment s x.tree x.height t → x.height ≤ n →
+      IfSome (exprs_behind n sub later x t) (FoundLow AreExprs n s)
   exprs_behind_sound later h s x [] d low = record { derives = g.one_expr d; low = low }
   exprs_behind_sound later h s x (at (k.Punct p.Comma) o ∷ t) d low =
       bind_all _ _ (later t) _ (h t) (λ xs f. record { derives = g.more_exprs d f.derives; low = omega (arith, f.low) })
@@ -186,14 +196,17 @@ module _ (n : ℕ) (sub : ℕ → List Lexeme → Option (Read Expr)) (sound : (
   exprs_sound : (m : ℕ) (s : List Lexeme) → IfSome (exprs n sub m s) (FoundLow AreExprs n s)
   unfolding exprs
   exprs_sound zero s = tt
-  exprs_sound (suc m) s = bind_all _ _ (sub g.assignment s) _ (sound g.assignment s) (λ x d. exprs_behind_sound (exprs n sub m) (exprs_sound m) s x x.rest d.derives d.low)
+  exprs_sound (suc m) s =
+      bind_all _ _ (sub g.assignment s) _ (sound g.assignment s)
+      (λ x d. exprs_behind_sound (exprs n sub m) (exprs_sound m) s x x.rest d.derives d.low)
 
   -- going on from x, which stands at the level that the role takes
   record Grows (s : List Lexeme) (x : Read Expr) (r : Operator) (l : LeftOperand) : Type 0 where
     derives : IsExpr l.level s l.read.tree l.read.height l.read.rest
     same : l.level ≡ operator_binds r
 
-  called_some_sound : (s : List Lexeme) (x : Read Expr) (o : Token) (t : List Lexeme) → IsExpr g.postfix s x.tree x.height (at (k.Punct p.LeftParen) o ∷ t) →
+  called_some_sound : (s : List Lexeme) (x : Read Expr) (o : Token) (t : List Lexeme) →
+      IsExpr g.postfix s x.tree x.height (at (k.Punct p.LeftParen) o ∷ t) →
       IfSome (called_some n sub x t) (Grows s x role.Call)
   unfolding called_some
   called_some_sound s x o t d =
@@ -201,7 +214,8 @@ module _ (n : ℕ) (sub : ℕ → List Lexeme → Option (Read Expr)) (sound : (
       bind_all _ _ (after_right_paren xs.rest) _ (after_right_paren_sound xs.rest) (λ u close.
       record { derives = g.call d (subst (AreExprs t xs.tree xs.height) close.1 f.derives); same = refl }))
 
-  called_sound : (s : List Lexeme) (x : Read Expr) (o : Token) (t : List Lexeme) → IsExpr g.postfix s x.tree x.height (at (k.Punct p.LeftParen) o ∷ t) →
+  called_sound : (s : List Lexeme) (x : Read Expr) (o : Token) (t : List Lexeme) →
+      IsExpr g.postfix s x.tree x.height (at (k.Punct p.LeftParen) o ∷ t) →
       IfSome (called n sub x t) (Grows s x role.Call)
   called_sound s x o [] d = called_some_sound s x o [] d
   called_sound s x o (at (k.Punct p.RightParen) q ∷ t) d = record { derives = g.call_empty d; same = refl }
@@ -215,7 +229,8 @@ module _ (n : ℕ) (sub : ℕ → List Lexeme → Option (Read Expr)) (sound : (
   by_sound : (s : List Lexeme) (x : Read Expr) (a : Punct) (r : Operator) (o : Token) (t : List Lexeme) → operator_of_punct a ≡ r →
       IsExpr (operator_takes r) s x.tree x.height (at (k.Punct a) o ∷ t) → IfSome (next_by n sub (place_of s) x r o.place t) (Grows s x r)
   unfolding indexed chosen assigned_to joined listed
-  by_sound s x a role.Call o t e d = called_sound s x o t (subst (λ a. IsExpr g.postfix s x.tree x.height (at (k.Punct a) o ∷ t)) (call_role a e) d)
+  by_sound s x a role.Call o t e d =
+      called_sound s x o t (subst (λ a. IsExpr g.postfix s x.tree x.height (at (k.Punct a) o ∷ t)) (call_role a e) d)
   by_sound s x a role.Index o t e d =
       bind_all _ _ (sub g.expression t) _ (sound g.expression t) (λ y f.
       bind_all _ _ (after_right_bracket y.rest) _ (after_right_bracket_sound y.rest) (λ u close.
@@ -236,19 +251,26 @@ module _ (n : ℕ) (sub : ℕ → List Lexeme → Option (Read Expr)) (sound : (
         same = refl;
       })))
   by_sound s x a (role.Assign b) o t e d =
-      bind_all _ _ (sub g.assignment t) _ (sound g.assignment t) (λ y f. record { derives = g.assigned (assign_role a b e) d f.derives; same = refl })
+      bind_all _ _ (sub g.assignment t) _ (sound g.assignment t)
+      (λ y f. record { derives = g.assigned (assign_role a b e) d f.derives; same = refl })
   by_sound s x a (role.Join b l) o t e d =
       bind_all _ _ (sub l t) _ (sound l t) (λ y f. record { derives = g.operation (join_role a b l e) d f.derives; same = refl })
   by_sound s x a role.List o t e d =
       bind_all _ _ (exprs n sub (length t) t) _ (exprs_sound (length t) t) (λ xs f.
-      record { derives = g.comma (subst (λ a. IsExpr g.assignment s x.tree x.height (at (k.Punct a) o ∷ t)) (list_role a e) d) f.derives; same = refl })
+      record {
+        derives = g.comma (subst (λ a. IsExpr g.assignment s x.tree x.height (at (k.Punct a) o ∷ t)) (list_role a e) d) f.derives;
+        same = refl;
+      })
   by_sound s x a role.Str o t e d = tt
   by_sound s x a role.End o t e d = tt
 
-  from_sound : (s : List Lexeme) (l : LeftOperand) (c : Terminal) (o : Token) (t : List Lexeme) → IsExpr l.level s l.read.tree l.read.height (at c o ∷ t) →
+  from_sound : (s : List Lexeme) (l : LeftOperand) (c : Terminal) (o : Token) (t : List Lexeme) →
+      IsExpr l.level s l.read.tree l.read.height (at c o ∷ t) →
       IfSome (next_from n sub (place_of s) l c o.place t) (Grows s l.read (operator_of c))
   unfolding next_from
-  from_sound s l (k.Punct a) o t d = if_all _ (nat_le l.level (operator_takes (operator_of_punct a))) _ _ (λ low. by_sound s l.read a (operator_of_punct a) o t refl (lift _ (leb-true _ _ low) d)) (λ _. tt)
+  from_sound s l (k.Punct a) o t d =
+      if_all _ (nat_le l.level (operator_takes (operator_of_punct a))) _ _
+      (λ low. by_sound s l.read a (operator_of_punct a) o t refl (lift _ (leb-true _ _ low) d)) (λ _. tt)
   from_sound s l k.Str o t d = if_all _ (nat_le l.level 0) _ _ (λ _. tt) (λ _. tt)
   from_sound s l k.Name o t d = if_all _ (nat_le l.level 0) _ _ (λ _. tt) (λ _. tt)
   from_sound s l k.Type o t d = if_all _ (nat_le l.level 0) _ _ (λ _. tt) (λ _. tt)
@@ -261,11 +283,15 @@ module _ (n : ℕ) (sub : ℕ → List Lexeme → Option (Read Expr)) (sound : (
     derives : IsExpr l.level s l.read.tree l.read.height l.read.rest
     same : l.level ≡ binds t
 
-  next_sound : (s : List Lexeme) (l : LeftOperand) (t : List Lexeme) → IsExpr l.level s l.read.tree l.read.height t → IfSome (next_in n sub (place_of s) l t) (GrowsFrom s t)
+  next_sound : (s : List Lexeme) (l : LeftOperand) (t : List Lexeme) → IsExpr l.level s l.read.tree l.read.height t →
+      IfSome (next_in n sub (place_of s) l t) (GrowsFrom s t)
   next_sound s l [] d = tt
-  next_sound s l (at c o ∷ t) d = weaken _ _ (next_from n sub (place_of s) l c o.place t) (from_sound s l c o t d) (λ r f. record { derives = f.derives; same = f.same })
+  next_sound s l (at c o ∷ t) d =
+      weaken _ _ (next_from n sub (place_of s) l c o.place t) (from_sound s l c o t d)
+      (λ r f. record { derives = f.derives; same = f.same })
 
-  climb_sound : (m to : ℕ) (s : List Lexeme) (l : LeftOperand) → IsExpr l.level s l.read.tree l.read.height l.read.rest → l.level ≤ to → l.read.height ≤ suc n
+  climb_sound : (m to : ℕ) (s : List Lexeme) (l : LeftOperand) → IsExpr l.level s l.read.tree l.read.height l.read.rest → l.level ≤ to →
+      l.read.height ≤ suc n
       → IfSome (climb n sub m to (place_of s) l) (Spells (suc n) to s)
   unfolding climb
   climb_sound zero to s l d level low =
@@ -273,7 +299,9 @@ module _ (n : ℕ) (sub : ℕ → List Lexeme → Option (Read Expr)) (sound : (
   climb_sound (suc m) to s l d level low =
       if_all _ (nat_lt to (binds l.read.rest)) _ _ (λ _. record { derives = lift to level d; low = low }) (λ on.
       bind_all _ _ (next_in n sub (place_of s) l l.read.rest) _ (next_sound s l l.read.rest d) (λ x grows.
-      if_all _ (nat_le x.read.height (suc n)) _ _ (λ fits. climb_sound m to s x grows.derives (let within : binds l.read.rest ≤ to = ltb-false _ _ on in omega (arith, grows.same)) (leb-true _ _ fits)) (λ _. tt)))
+      if_all _ (nat_le x.read.height (suc n)) _ _ (λ fits.
+      climb_sound m to s x grows.derives (let within : binds l.read.rest ≤ to = ltb-false _ _ on in omega (arith, grows.same))
+      (leb-true _ _ fits)) (λ _. tt)))
 
   -- ---- What an expression begins with
 
@@ -287,9 +315,13 @@ module _ (n : ℕ) (sub : ℕ → List Lexeme → Option (Read Expr)) (sound : (
       bind_all _ _ (type_name n sub t) _ (type_name_sound n t) (λ m d.
       bind_all _ _ (after_right_paren m.rest) _ (after_right_paren_sound m.rest) (λ u close.
       bind_all _ _ (sub g.cast u) _ (sound g.cast u) (λ x f.
-      record { derives = g.conversion (subst (IsTypeName t m.tree m.height) close.1 d.derives) f.derives; low = omega (arith, d.low, f.low) })))
+      record {
+        derives = g.conversion (subst (IsTypeName t m.tree m.height) close.1 d.derives) f.derives;
+        low = omega (arith, d.low, f.low);
+      })))
 
-  sized_type_sound : (o q : Token) (t : List Lexeme) → IfSome (sized_type n sub o.place t) (Starts (at (k.Word w.Sizeof) o ∷ at (k.Punct p.LeftParen) q ∷ t))
+  sized_type_sound : (o q : Token) (t : List Lexeme) →
+      IfSome (sized_type n sub o.place t) (Starts (at (k.Word w.Sizeof) o ∷ at (k.Punct p.LeftParen) q ∷ t))
   unfolding sized_type
   sized_type_sound o q t =
       bind_all _ _ (type_name n sub t) _ (type_name_sound n t) (λ m d.
@@ -298,11 +330,13 @@ module _ (n : ℕ) (sub : ℕ → List Lexeme → Option (Read Expr)) (sound : (
 
   sized_expr_sound : (o : Token) (t : List Lexeme) → IfSome (sized_expr n sub o.place t) (Starts (at (k.Word w.Sizeof) o ∷ t))
   unfolding sized_expr
-  sized_expr_sound o t = bind_all _ _ (sub g.unary t) _ (sound g.unary t) (λ x f. record { derives = g.sizeof_expr f.derives; low = omega (arith, f.low) })
+  sized_expr_sound o t =
+      bind_all _ _ (sub g.unary t) _ (sound g.unary t) (λ x f. record { derives = g.sizeof_expr f.derives; low = omega (arith, f.low) })
 
   sized_sound : (o : Token) (t : List Lexeme) → IfSome (sized n sub o.place t) (Starts (at (k.Word w.Sizeof) o ∷ t))
   sized_sound o [] = sized_expr_sound o []
-  sized_sound o (at (k.Punct p.LeftParen) q ∷ t) = if_all _ (begins_spec t) _ _ (λ _. sized_type_sound o q t) (λ _. sized_expr_sound o (at (k.Punct p.LeftParen) q ∷ t))
+  sized_sound o (at (k.Punct p.LeftParen) q ∷ t) =
+      if_all _ (begins_spec t) _ _ (λ _. sized_type_sound o q t) (λ _. sized_expr_sound o (at (k.Punct p.LeftParen) q ∷ t))
   sized_sound o (q ∷ t) = sized_expr_sound o (q ∷ t)
 
   size_called_sound : (o : Token) (s : List Lexeme) → IfSome (size_called n sub o.place s) (Starts (at (k.Word w.DynamicObjectSize) o ∷ s))
@@ -313,28 +347,36 @@ module _ (n : ℕ) (sub : ℕ → List Lexeme → Option (Read Expr)) (sound : (
       bind_all _ _ (after_comma x.rest) _ (after_comma_sound x.rest) (λ u comma.
       bind_all _ _ (sub g.conditional u) _ (sound g.conditional u) (λ y f.
       bind_all _ _ (after_right_paren y.rest) _ (after_right_paren_sound y.rest) (λ v close.
-      let made = g.size_call {o = o} {q = begin.0} (subst (IsExpr g.assignment t x.tree x.height) comma.1 d.derives) (subst (IsExpr g.conditional u y.tree y.height) close.1 f.derives) in
+      let made = g.size_call {o = o} {q = begin.0} (subst (IsExpr g.assignment t x.tree x.height) comma.1 d.derives)
+      (subst (IsExpr g.conditional u y.tree y.height) close.1 f.derives) in
       record {
-        derives = subst (λ l. IsExpr g.postfix (at (k.Word w.DynamicObjectSize) o ∷ l) (expr (e.SizeCall x.tree y.tree) o.place) (suc (max x.height y.height)) v) (sym begin.1) made;
+        derives =
+            subst (λ l. IsExpr g.postfix (at (k.Word w.DynamicObjectSize) o ∷ l) (expr (e.SizeCall x.tree y.tree) o.place)
+            (suc (max x.height y.height)) v) (sym begin.1) made;
         low = omega (arith, d.low, f.low);
       })))))
 
-  prefixed_sound : (a : Punct) (o : Token) (t : List Lexeme) (x : Option (PrefixOp × ℕ)) → prefix_operator a ≡ x → IfSome (prefixed_of n sub x o.place t) (Starts (at (k.Punct a) o ∷ t))
+  prefixed_sound : (a : Punct) (o : Token) (t : List Lexeme) (x : Option (PrefixOp × ℕ)) → prefix_operator a ≡ x →
+      IfSome (prefixed_of n sub x o.place t) (Starts (at (k.Punct a) o ∷ t))
   unfolding prefixed_by
   prefixed_sound a o t None e = tt
-  prefixed_sound a o t (Some x) e = bind_all _ _ (sub x.1 t) _ (sound x.1 t) (λ y f. record { derives = g.prefixed e f.derives; low = omega (arith, f.low) })
+  prefixed_sound a o t (Some x) e =
+      bind_all _ _ (sub x.1 t) _ (sound x.1 t) (λ y f. record { derives = g.prefixed e f.derives; low = omega (arith, f.low) })
 
-  constant_sound : (o : Token) (t : List Lexeme) (x : Option ExprKind) → constant_of o.kind ≡ x → IfSome (constant_read n sub x o.place t) (Starts (at k.Constant o ∷ t))
+  constant_sound : (o : Token) (t : List Lexeme) (x : Option ExprKind) → constant_of o.kind ≡ x →
+      IfSome (constant_read n sub x o.place t) (Starts (at k.Constant o ∷ t))
   constant_sound o t None e = tt
   constant_sound o t (Some x) e = record { derives = g.constant e; low = omega arith }
 
-  begun_sound : (to : ℕ) (s : List Lexeme) (first : Option LeftOperand) → IfSome first (Starts s) → IfSome (begun n sub to (place_of s) first) (Spells (suc n) to s)
+  begun_sound : (to : ℕ) (s : List Lexeme) (first : Option LeftOperand) → IfSome first (Starts s) →
+      IfSome (begun n sub to (place_of s) first) (Spells (suc n) to s)
   unfolding begun
   begun_sound to s first h =
       bind_all _ _ first _ h (λ l d.
       if_all _ (nat_le l.level to) _ _ (λ within. climb_sound (suc n) to s l d.derives (leb-true _ _ within) d.low) (λ _. tt))
 
-  opened_sound : (o : Token) (t : List Lexeme) (first : Option LeftOperand) (type : Bool) → IfSome first (Starts t) → IfSome (opened n sub first type o.place t) (Starts (at (k.Punct p.LeftParen) o ∷ t))
+  opened_sound : (o : Token) (t : List Lexeme) (first : Option LeftOperand) (type : Bool) → IfSome first (Starts t) →
+      IfSome (opened n sub first type o.place t) (Starts (at (k.Punct p.LeftParen) o ∷ t))
   unfolding parenthesised
   opened_sound o t first true h = converted_sound o t
   opened_sound o t first false h =

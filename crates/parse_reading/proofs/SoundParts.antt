@@ -31,17 +31,21 @@ pub data AreOpen : List Brackets → List Lexeme → List Token → List Lexeme 
   waits : {b : Punct} {x : Brackets} {xs : List Brackets} {q : Token} {os qs : List Token} {s t u : List Lexeme} → closing b ≡ Some x →
       AreBalanced s os (at (k.Punct b) q ∷ t) → AreOpen xs t qs u → AreOpen (x ∷ xs) s (os ++ q ∷ qs) u
 
-open_token : {xs : List Brackets} {c : Terminal} {o : Token} {os : List Token} {s t : List Lexeme} → is_bracket c ≡ false → AreOpen xs s os t → AreOpen xs (at c o ∷ s) (o ∷ os) t
+open_token : {xs : List Brackets} {c : Terminal} {o : Token} {os : List Token} {s t : List Lexeme} → is_bracket c ≡ false →
+    AreOpen xs s os t → AreOpen xs (at c o ∷ s) (o ∷ os) t
 open_token e (closed d) = closed (g.balanced_token e d)
 open_token e (waits c d f) = waits c (g.balanced_token e d) f
 
-open_group : {xs : List Brackets} {x : Brackets} {a b : Punct} {o q : Token} {os qs : List Token} {s t u : List Lexeme} → opening a ≡ Some x → closing b ≡ Some x →
+open_group : {xs : List Brackets} {x : Brackets} {a b : Punct} {o q : Token} {os qs : List Token} {s t u : List Lexeme} →
+    opening a ≡ Some x → closing b ≡ Some x →
     AreBalanced s os (at (k.Punct b) q ∷ t) → AreOpen xs t qs u → AreOpen xs (at (k.Punct a) o ∷ s) (o ∷ os ++ q ∷ qs) u
 open_group e c d (closed f) = closed (g.balanced_group e c d f)
 open_group {xs} {x} {a} {b} {o} {q} {os} {qs} {s} {t} {u} e c d (waits {b = b'} {xs = ys} {q = r} {os = os'} {qs = qs'} c' f h) =
-    subst (λ l. AreOpen xs (at (k.Punct a) o ∷ s) (o ∷ l) u) (append_assoc os (q ∷ os') (r ∷ qs')) (waits c' (g.balanced_group {o = o} e c d f) h)
+    subst (λ l. AreOpen xs (at (k.Punct a) o ∷ s) (o ∷ l) u) (append_assoc os (q ∷ os') (r ∷ qs'))
+    (waits c' (g.balanced_group {o = o} e c d f) h)
 
-open_bracket : {xs : List Brackets} {x : Brackets} {a : Punct} {o : Token} {os : List Token} {s t : List Lexeme} → opening a ≡ Some x → AreOpen (x ∷ xs) s os t →
+open_bracket : {xs : List Brackets} {x : Brackets} {a : Punct} {o : Token} {os : List Token} {s t : List Lexeme} → opening a ≡ Some x →
+    AreOpen (x ∷ xs) s os t →
     AreOpen xs (at (k.Punct a) o ∷ s) (o ∷ os) t
 open_bracket e (waits c d f) = open_group e c d f
 
@@ -63,7 +67,8 @@ no_bracket : (a : Punct) → opening a ≡ None → closing a ≡ None → is_br
 no_bracket a e f = rw (e, f) refl
 
 module _ (o : Token) (s : List Lexeme) (later : (xs : List Brackets) → IfSome (balanced xs s) (Opens xs s)) where
-  taken : (xs ys : List Brackets) (c : Terminal) → ((os : List Token) (t : List Lexeme) → AreOpen ys s os t → AreOpen xs (at c o ∷ s) (o ∷ os) t) →
+  taken : (xs ys : List Brackets) (c : Terminal) →
+      ((os : List Token) (t : List Lexeme) → AreOpen ys s os t → AreOpen xs (at c o ∷ s) (o ∷ os) t) →
       IfSome (with_token o (balanced ys s)) (Opens xs (at c o ∷ s))
   taken xs ys c h = bind_all _ _ (balanced ys s) _ (later ys) (λ r d. h r.0 r.1 d)
 
@@ -116,7 +121,8 @@ attribute_sound (at c o ∷ t) = if_all _ (is_word c) _ _ (λ e. behind_sound c 
 abbrev AttributesIn : List Lexeme → List Attribute × List Lexeme → Type 0
 AttributesIn s r = AreAttributes s r.0 r.1
 
-attributes_behind_sound : (later : List Lexeme → Option (List Attribute × List Lexeme)) → ((t : List Lexeme) → IfSome (later t) (AttributesIn t)) →
+attributes_behind_sound : (later : List Lexeme → Option (List Attribute × List Lexeme)) →
+    ((t : List Lexeme) → IfSome (later t) (AttributesIn t)) →
     (s : List Lexeme) (x : Attribute) (t : List Lexeme) → IsAttribute s x t → IfSome (attributes_behind later x t) (AttributesIn s)
 attributes_behind_sound later sound s x [] d = tt
 attributes_behind_sound later sound s x (at (k.Punct p.Comma) o ∷ t) d = bind_all _ _ (later t) _ (sound t) (λ r f. g.more_attributes d f)
@@ -128,11 +134,13 @@ attributes_behind_sound later sound s x _ d = tt
 attributes_sound : (m : ℕ) (s : List Lexeme) → IfSome (attributes m s) (AttributesIn s)
 unfolding attributes
 attributes_sound zero s = tt
-attributes_sound (suc m) s = bind_all _ _ (attribute s) _ (attribute_sound s) (λ x d. attributes_behind_sound (attributes m) (attributes_sound m) s x.0 x.1 d)
+attributes_sound (suc m) s =
+    bind_all _ _ (attribute s) _ (attribute_sound s) (λ x d. attributes_behind_sound (attributes m) (attributes_sound m) s x.0 x.1 d)
 
 -- behind the word and two brackets
 abbrev Within : List Lexeme → List Attribute × List Lexeme → Type 0
-Within s r = (o q b : Token) → IsAttributeList (at (k.Word w.Attribute) o ∷ at (k.Punct p.LeftParen) q ∷ at (k.Punct p.LeftParen) b ∷ s) r.0 r.1
+Within s r =
+    (o q b : Token) → IsAttributeList (at (k.Word w.Attribute) o ∷ at (k.Punct p.LeftParen) q ∷ at (k.Punct p.LeftParen) b ∷ s) r.0 r.1
 
 some_within : (s : List Lexeme) → IfSome (attributes (length s) s) (Within s)
 some_within s = weaken _ _ (attributes (length s) s) (attributes_sound (length s) s) (λ r d o q b. g.some_attributes d)
@@ -141,18 +149,22 @@ within_sound : (s : List Lexeme) → IfSome (attributes_within s) (Within s)
 within_sound [] = some_within []
 within_sound (at (k.Punct p.RightParen) o ∷ t) =
     bind_all _ _ (after_right_paren t) _ (after_right_paren_sound t) (λ u close a q b.
-    subst (λ l. IsAttributeList (at (k.Word w.Attribute) a ∷ at (k.Punct p.LeftParen) q ∷ at (k.Punct p.LeftParen) b ∷ at (k.Punct p.RightParen) o ∷ l) [] u)
+    subst
+    (λ l. IsAttributeList (at (k.Word w.Attribute) a ∷ at (k.Punct p.LeftParen) q ∷ at (k.Punct p.LeftParen) b
+    ∷ at (k.Punct p.RightParen) o ∷ l) [] u)
     (sym close.1) g.empty_attributes)
 within_sound (o ∷ t) = some_within (o ∷ t)
 
-pub attribute_list_sound : (o : Token) (s : List Lexeme) → IfSome (attribute_list s) (λ r. IsAttributeList (at (k.Word w.Attribute) o ∷ s) r.0 r.1)
+pub attribute_list_sound : (o : Token) (s : List Lexeme) →
+    IfSome (attribute_list s) (λ r. IsAttributeList (at (k.Word w.Attribute) o ∷ s) r.0 r.1)
 unfolding attribute_list
 attribute_list_sound o s =
     bind_all _ _ (after_left_paren s) _ (after_left_paren_sound s) (λ t first.
     bind_all _ _ (after_left_paren t) _ (after_left_paren_sound t) (λ u second.
     weaken _ _ (attributes_within u) (within_sound u) (λ r d.
     subst (λ l. IsAttributeList (at (k.Word w.Attribute) o ∷ l) r.0 r.1) (sym first.1)
-    (subst (λ l. IsAttributeList (at (k.Word w.Attribute) o ∷ at (k.Punct p.LeftParen) first.0 ∷ l) r.0 r.1) (sym second.1) (d o first.0 second.0)))))
+    (subst (λ l. IsAttributeList (at (k.Word w.Attribute) o ∷ at (k.Punct p.LeftParen) first.0 ∷ l) r.0 r.1) (sym second.1)
+    (d o first.0 second.0)))))
 
 -- ---- Stars and string literals
 
@@ -161,8 +173,10 @@ unfolding pointer_words
 pointer_words_sound [] = g.no_words
 pointer_words_sound (at c o ∷ s) = go s c o (pointer_word c) refl (pointer_words_sound s)
   where
-    go : (s : List Lexeme) (c : Terminal) (o : Token) (x : Option PointerWord) → pointer_word c ≡ x → ArePointerWords s (pointer_words s).0 (pointer_words s).1 →
-        ArePointerWords (at c o ∷ s) (pointer_words_by (pointer_words s) (at c o ∷ s) x).0 (pointer_words_by (pointer_words s) (at c o ∷ s) x).1
+    go : (s : List Lexeme) (c : Terminal) (o : Token) (x : Option PointerWord) → pointer_word c ≡ x →
+        ArePointerWords s (pointer_words s).0 (pointer_words s).1 →
+        ArePointerWords (at c o ∷ s) (pointer_words_by (pointer_words s) (at c o ∷ s) x).0
+        (pointer_words_by (pointer_words s) (at c o ∷ s) x).1
     go s c o None e d = g.no_words
     go s c o (Some x) e d = g.more_words e d
 
@@ -171,7 +185,8 @@ pub data MaybeStars : List Lexeme → List PointerWord → List Lexeme → Type 
   no_stars : {t : List Lexeme} → MaybeStars t [] t
   some_stars : {s t : List Lexeme} {x : PointerWord} {xs : List PointerWord} → AreStars s (x ∷ xs) t → MaybeStars s (x ∷ xs) t
 
-star_more : {o : Token} {s t : List Lexeme} {xs : List PointerWord} → MaybeStars s xs t → AreStars (at (k.Punct p.Star) o ∷ s) (pointer.Star ∷ xs) t
+star_more : {o : Token} {s t : List Lexeme} {xs : List PointerWord} → MaybeStars s xs t →
+    AreStars (at (k.Punct p.Star) o ∷ s) (pointer.Star ∷ xs) t
 star_more no_stars = g.one_star
 star_more (some_stars d) = g.more_stars d
 
@@ -198,17 +213,20 @@ tag_sound : (word : Keyword) (a : Aggregate) (o : Token) (t : List Lexeme) → a
 tag_sound word a o [] e = tt
 tag_sound word a o (at c q ∷ t) e = if_all _ (is_tag c) _ _ (λ name. record { derives = λ b. g.spec_tag e name }) (λ _. tt)
 
-enum_sound : (o : Token) (t : List Lexeme) → IfSome (tag (λ q. spec.EnumTag (identifier q) o.place) t) (IsCounted (at (k.Word w.Enum) o ∷ t))
+enum_sound : (o : Token) (t : List Lexeme) → IfSome (tag (λ q. spec.EnumTag (identifier q) o.place) t)
+    (IsCounted (at (k.Word w.Enum) o ∷ t))
 enum_sound o [] = tt
 enum_sound o (at c q ∷ t) = if_all _ (is_tag c) _ _ (λ name. record { derives = λ b. g.spec_enum_tag name }) (λ _. tt)
 
-basic_sound : (word : Keyword) (o : Token) (t : List Lexeme) (x : Option (BasicWord × Tally)) → basic_word word ≡ x → IfSome (basic_spec x o.place t) (IsCounted (at (k.Word word) o ∷ t))
+basic_sound : (word : Keyword) (o : Token) (t : List Lexeme) (x : Option (BasicWord × Tally)) → basic_word word ≡ x →
+    IfSome (basic_spec x o.place t) (IsCounted (at (k.Word word) o ∷ t))
 basic_sound word o t None e = tt
 basic_sound word o t (Some x) e = record { derives = λ b. g.spec_basic e }
 
 attribute_spec_sound : (o : Token) (t : List Lexeme) → IfSome (attribute_spec o.place t) (IsCounted (at (k.Word w.Attribute) o ∷ t))
 unfolding attribute_spec
-attribute_spec_sound o t = bind_all _ _ (attribute_list t) _ (attribute_list_sound o t) (λ r d. record { derives = λ b. g.spec_attributes d })
+attribute_spec_sound o t =
+    bind_all _ _ (attribute_list t) _ (attribute_list_sound o t) (λ r d. record { derives = λ b. g.spec_attributes d })
 
 word_sound : (word : Keyword) (o : Token) (t : List Lexeme) → IfSome (word_spec word o.place t) (IsCounted (at (k.Word word) o ∷ t))
 word_sound w.Typedef o t = record { derives = λ b. g.spec_typedef }
@@ -238,7 +256,8 @@ pub record IsCountedIn (c : Context) (s : List Lexeme) (r : Read Counted) : Type
   pub derives : IsSpec c s r.tree.spec r.tree.tally r.height r.rest
 
 module _ (c : Context) (one : List Lexeme → Option (Read Counted)) (sound : (s : List Lexeme) → IfSome (one s) (IsCountedIn c s)) where
-  behind_spec : (later : List Lexeme → Option (Read Specs)) → ((s : List Lexeme) → IfSome (later s) (AreCountedAny c s)) → (s : List Lexeme) (x : Read Counted) → IsCountedIn c s x →
+  behind_spec : (later : List Lexeme → Option (Read Specs)) → ((s : List Lexeme) → IfSome (later s) (AreCountedAny c s)) →
+      (s : List Lexeme) (x : Read Counted) → IsCountedIn c s x →
       (more : Bool) → IfSome (specs_behind one later x more) (AreCountedAny c s)
   behind_spec later h s x d false = record { derives = g.one_spec d.derives }
   behind_spec later h s x d true = bind_all _ _ (later x.rest) _ (h x.rest) (λ xs f. record { derives = g.more_specs d.derives f.derives })
@@ -246,7 +265,8 @@ module _ (c : Context) (one : List Lexeme → Option (Read Counted)) (sound : (s
   specs_any_sound : (m : ℕ) (s : List Lexeme) → IfSome (specs_any one m s) (AreCountedAny c s)
   unfolding specs_any
   specs_any_sound zero s = tt
-  specs_any_sound (suc m) s = bind_all _ _ (one s) _ (sound s) (λ x d. behind_spec (specs_any one m) (specs_any_sound m) s x d (begins_spec x.rest))
+  specs_any_sound (suc m) s =
+      bind_all _ _ (one s) _ (sound s) (λ x d. behind_spec (specs_any one m) (specs_any_sound m) s x d (begins_spec x.rest))
 
   pub specs_in_sound : (s : List Lexeme) → IfSome (specs_in one c s) (AreCounted c s)
   unfolding specs_in

@@ -48,12 +48,14 @@ module _ (deep : List Lexeme → Option (Read Init)) (deep_sound : (a : List Lex
         IfSome (prepended (x.tree ∷ []) x.height (later t)) (Found AreInits a)
     more_inits a x o t d = bind_all _ _ (later t) _ (h t) (λ xs f. record { derives = g.more_inits d f.derives })
 
-    comma_sound : (a : List Lexeme) (x : Read Init) (o : Token) (t : List Lexeme) → IsInit a x.tree x.height (at (k.Punct p.Comma) o ∷ t) → IfSome (inits_comma deep later x t) (Found AreInits a)
+    comma_sound : (a : List Lexeme) (x : Read Init) (o : Token) (t : List Lexeme) → IsInit a x.tree x.height (at (k.Punct p.Comma) o ∷ t) →
+        IfSome (inits_comma deep later x t) (Found AreInits a)
     comma_sound a x o [] d = more_inits a x o [] d
     comma_sound a x o (at (k.Punct p.RightBrace) q ∷ t) d = record { derives = g.last_init_comma d }
     comma_sound a x o (q ∷ t) d = more_inits a x o (q ∷ t) d
 
-    inits_behind_sound : (a : List Lexeme) (x : Read Init) (t : List Lexeme) → IsInit a x.tree x.height t → IfSome (inits_behind deep later x t) (Found AreInits a)
+    inits_behind_sound : (a : List Lexeme) (x : Read Init) (t : List Lexeme) → IsInit a x.tree x.height t →
+        IfSome (inits_behind deep later x t) (Found AreInits a)
     inits_behind_sound a x [] d = tt
     inits_behind_sound a x (at (k.Punct p.RightBrace) o ∷ t) d = record { derives = g.last_init d }
     inits_behind_sound a x (at (k.Punct p.Comma) o ∷ t) d = comma_sound a x o t d
@@ -62,12 +64,15 @@ module _ (deep : List Lexeme → Option (Read Init)) (deep_sound : (a : List Lex
   inits_sound : (m : ℕ) (a : List Lexeme) → IfSome (inits deep m a) (Found AreInits a)
   unfolding inits
   inits_sound zero a = tt
-  inits_sound (suc m) a = bind_all _ _ (deep a) _ (deep_sound a) (λ x d. inits_behind_sound (inits deep m) (inits_sound m) a x x.rest d.derives)
+  inits_sound (suc m) a =
+      bind_all _ _ (deep a) _ (deep_sound a) (λ x d. inits_behind_sound (inits deep m) (inits_sound m) a x x.rest d.derives)
 
-  module _ (n : ℕ) (sub : ℕ → List Lexeme → Option (Read Expr)) (sound : (to : ℕ) (a : List Lexeme) → IfSome (sub to a) (Spells n to a)) where
+  module _ (n : ℕ) (sub : ℕ → List Lexeme → Option (Read Expr))
+      (sound : (to : ℕ) (a : List Lexeme) → IfSome (sub to a) (Spells n to a)) where
     list_sound : (o : Token) (t : List Lexeme) → IfSome (init_list deep sub o.place t) (Found IsInit (at (k.Punct p.LeftBrace) o ∷ t))
     unfolding init_list
-    list_sound o t = bind_all _ _ (inits deep (length t) t) _ (inits_sound (length t) t) (λ xs d. record { derives = g.init_list d.derives })
+    list_sound o t =
+        bind_all _ _ (inits deep (length t) t) _ (inits_sound (length t) t) (λ xs d. record { derives = g.init_list d.derives })
 
     init_expr_sound : (a : List Lexeme) → IfSome (init_expr deep sub a) (Found IsInit a)
     unfolding init_expr
@@ -88,7 +93,8 @@ initialiser_sound (suc n) a = init_by_sound (initialiser n) (initialiser_sound n
 abbrev ListsIn : List Lexeme → List (List Attribute) × List Lexeme → Type 0
 ListsIn a x = AreAttributeLists a x.0 x.1
 
-lists_by_sound : (later : List Lexeme → Option (List (List Attribute) × List Lexeme)) → ((a : List Lexeme) → IfSome (later a) (ListsIn a)) → (a : List Lexeme) → IfSome (lists_by later a) (ListsIn a)
+lists_by_sound : (later : List Lexeme → Option (List (List Attribute) × List Lexeme)) → ((a : List Lexeme) → IfSome (later a) (ListsIn a)) →
+    (a : List Lexeme) → IfSome (lists_by later a) (ListsIn a)
 lists_by_sound later h [] = g.no_lists
 lists_by_sound later h (at (k.Word w.Attribute) o ∷ t) =
     bind_all _ _ (attribute_list t) _ (attribute_list_sound o t) (λ x d.
@@ -111,12 +117,14 @@ pub record FoundLocal (a : List Lexeme) (x : Read Local) : Type 0 where
 
 module _ (named : List Lexeme → Option (Read Named)) (named_sound : (a : List Lexeme) → IfSome (named a) (FoundNamed a))
     (init : List Lexeme → Option (Read Init)) (init_sound : (a : List Lexeme) → IfSome (init a) (Found IsInit a)) where
-  initialised_sound : (a : List Lexeme) (x : Read Named) (xs : List (List Attribute)) (o : Token) (u : List Lexeme) → IsDeclarator a x.tree.tree x.tree.declared x.height x.rest →
+  initialised_sound : (a : List Lexeme) (x : Read Named) (xs : List (List Attribute)) (o : Token) (u : List Lexeme) →
+      IsDeclarator a x.tree.tree x.tree.declared x.height x.rest →
       AreAttributeLists x.rest xs (at (k.Punct p.Assign) o ∷ u) → IfSome (initialised named init x xs u) (FoundInit a)
   unfolding initialised
   initialised_sound a x xs o u d f = bind_all _ _ (init u) _ (init_sound u) (λ y i. record { derives = g.initialised d f i.derives })
 
-  init_behind_sound : (a : List Lexeme) (x : Read Named) (xs : List (List Attribute)) (u : List Lexeme) → IsDeclarator a x.tree.tree x.tree.declared x.height x.rest →
+  init_behind_sound : (a : List Lexeme) (x : Read Named) (xs : List (List Attribute)) (u : List Lexeme) →
+      IsDeclarator a x.tree.tree x.tree.declared x.height x.rest →
       AreAttributeLists x.rest xs u → IfSome (init_behind named init x xs u) (FoundInit a)
   init_behind_sound a x xs [] d f = record { derives = g.uninitialised d f }
   init_behind_sound a x xs (at (k.Punct p.Assign) o ∷ u) d f = initialised_sound a x xs o u d f
@@ -129,17 +137,21 @@ module _ (named : List Lexeme → Option (Read Named)) (named_sound : (a : List 
       bind_all _ _ (attribute_lists (length x.rest) x.rest) _ (lists_sound (length x.rest) x.rest) (λ xs f.
       init_behind_sound a x xs.0 xs.1 d.derives f))
 
-  init_declarators_behind_sound : (later : List Lexeme → Option (Read NamedInits)) → ((a : List Lexeme) → IfSome (later a) (FoundInits a)) → (a : List Lexeme) (x : Read NamedInit) (t : List Lexeme) →
+  init_declarators_behind_sound : (later : List Lexeme → Option (Read NamedInits)) → ((a : List Lexeme) → IfSome (later a) (FoundInits a)) →
+      (a : List Lexeme) (x : Read NamedInit) (t : List Lexeme) →
       IsInitDeclarator a x.tree.tree x.tree.declared x.height t → IfSome (init_declarators_behind named init later x t) (FoundInits a)
   init_declarators_behind_sound later h a x [] d = tt
   init_declarators_behind_sound later h a x (at (k.Punct p.Semicolon) o ∷ t) d = record { derives = g.last_init_declarator d }
-  init_declarators_behind_sound later h a x (at (k.Punct p.Comma) o ∷ t) d = bind_all _ _ (later t) _ (h t) (λ xs f. record { derives = g.more_init_declarators d f.derives })
+  init_declarators_behind_sound later h a x (at (k.Punct p.Comma) o ∷ t) d =
+      bind_all _ _ (later t) _ (h t) (λ xs f. record { derives = g.more_init_declarators d f.derives })
   init_declarators_behind_sound later h a x _ d = tt
 
   pub init_declarators_sound : (m : ℕ) (a : List Lexeme) → IfSome (init_declarators named init m a) (FoundInits a)
   unfolding init_declarators
   init_declarators_sound zero a = tt
-  init_declarators_sound (suc m) a = bind_all _ _ (init_declarator named init a) _ (init_declarator_sound a) (λ x d. init_declarators_behind_sound (init_declarators named init m) (init_declarators_sound m) a x x.rest d.derives)
+  init_declarators_sound (suc m) a =
+      bind_all _ _ (init_declarator named init a) _ (init_declarator_sound a)
+      (λ x d. init_declarators_behind_sound (init_declarators named init m) (init_declarators_sound m) a x x.rest d.derives)
 
   local_sound : (a : List Lexeme) → IfSome (local named init a) (FoundLocal a)
   unfolding local
@@ -187,7 +199,8 @@ module _ (n : ℕ) (sub : ℕ → List Lexeme → Option (Read Expr)) (sound : (
         bind_all _ _ (after_colon x.rest) _ (after_colon_sound x.rest) (λ t colon.
         record { derives = g.case (subst (IsExpr e.conditional a x.tree x.height) colon.1 d.derives) }))
 
-    default_sound : (o : Token) (a : List Lexeme) → IfSome (default_label sub locals deep o.place a) (Found IsLabel (at (k.Word w.Default) o ∷ a))
+    default_sound : (o : Token) (a : List Lexeme) →
+        IfSome (default_label sub locals deep o.place a) (Found IsLabel (at (k.Word w.Default) o ∷ a))
     unfolding default_label
     default_sound o a =
         bind_all _ _ (after_colon a) _ (after_colon_sound a) (λ t colon.
@@ -205,23 +218,30 @@ module _ (n : ℕ) (sub : ℕ → List Lexeme → Option (Read Expr)) (sound : (
           IfSome (with_stmt sub locals deep later (if if_label then label sub locals deep a else deep a)) (Found AreLabelled a)
       unfolding with_stmt
       stmt_labelled h a true =
-          bind_all _ _ (label sub locals deep a) _ (label_sound a) (λ x d. bind_all _ _ (later x.rest) _ (h x.rest) (λ xs f. record { derives = g.next_label d.derives f.derives }))
+          bind_all _ _ (label sub locals deep a) _ (label_sound a)
+          (λ x d. bind_all _ _ (later x.rest) _ (h x.rest) (λ xs f. record { derives = g.next_label d.derives f.derives }))
       stmt_labelled h a false =
-          bind_all _ _ (deep a) _ (deep_sound a) (λ x d. bind_all _ _ (later x.rest) _ (h x.rest) (λ xs f. record { derives = g.next_stmt d.derives f.derives }))
+          bind_all _ _ (deep a) _ (deep_sound a) (λ x d.
+          bind_all _ _ (later x.rest) _ (h x.rest) (λ xs f. record { derives = g.next_stmt d.derives f.derives }))
 
-      labelled_by_sound : ((a : List Lexeme) → IfSome (later a) (Found AreLabelled a)) → (a : List Lexeme) → IfSome (labelled_by sub locals deep later a) (Found AreLabelled a)
+      labelled_by_sound : ((a : List Lexeme) → IfSome (later a) (Found AreLabelled a)) → (a : List Lexeme) →
+          IfSome (labelled_by sub locals deep later a) (Found AreLabelled a)
       labelled_by_sound h [] = stmt_labelled h [] false
       labelled_by_sound h (at (k.Punct p.RightBrace) o ∷ t) = record { derives = g.labels_end }
       labelled_by_sound h (o ∷ t) = stmt_labelled h (o ∷ t) (begins_label sub locals deep (o ∷ t))
 
-      stmt_cases : ((a : List Lexeme) → IfSome (later a) (Found AreLabelled a)) → (a : List Lexeme) → IfSome (with_stmt sub locals deep later (label sub locals deep a)) (Found AreCases a)
+      stmt_cases : ((a : List Lexeme) → IfSome (later a) (Found AreLabelled a)) → (a : List Lexeme) →
+          IfSome (with_stmt sub locals deep later (label sub locals deep a)) (Found AreCases a)
       unfolding with_stmt
       stmt_cases h a =
-          bind_all _ _ (label sub locals deep a) _ (label_sound a) (λ x d. bind_all _ _ (later x.rest) _ (h x.rest) (λ xs f. record { derives = g.first_label d.derives f.derives }))
+          bind_all _ _ (label sub locals deep a) _ (label_sound a)
+          (λ x d. bind_all _ _ (later x.rest) _ (h x.rest) (λ xs f. record { derives = g.first_label d.derives f.derives }))
 
-      with_items : ((a : List Lexeme) → IfSome (later a) (Found AreItems a)) → (a : List Lexeme) (x : Option (Read Stmt)) → IfSome x (Prepends a) → IfSome (with_stmt sub locals deep later x) (Found AreItems a)
+      with_items : ((a : List Lexeme) → IfSome (later a) (Found AreItems a)) → (a : List Lexeme) (x : Option (Read Stmt)) →
+          IfSome x (Prepends a) → IfSome (with_stmt sub locals deep later x) (Found AreItems a)
       unfolding with_stmt
-      with_items h a x f = bind_all _ _ x _ f (λ y d. bind_all _ _ (later y.rest) _ (h y.rest) (λ ys i. record { derives = d.goes i.derives }))
+      with_items h a x f =
+          bind_all _ _ x _ f (λ y d. bind_all _ _ (later y.rest) _ (h y.rest) (λ ys i. record { derives = d.goes i.derives }))
 
       declared_sound : (a : List Lexeme) → IfSome (declared_item sub locals deep a) (Prepends a)
       unfolding declared_item
@@ -230,11 +250,13 @@ module _ (n : ℕ) (sub : ℕ → List Lexeme → Option (Read Expr)) (sound : (
       stated_sound : (a : List Lexeme) → IfSome (deep a) (Prepends a)
       stated_sound a = weaken _ _ (deep a) (deep_sound a) (λ x d. record { goes = λ rest. g.item_stated d.derives rest })
 
-      item_sound : (a : List Lexeme) (is_declared : Bool) → IfSome (if is_declared then declared_item sub locals deep a else deep a) (Prepends a)
+      item_sound : (a : List Lexeme) (is_declared : Bool) →
+          IfSome (if is_declared then declared_item sub locals deep a else deep a) (Prepends a)
       item_sound a true = declared_sound a
       item_sound a false = stated_sound a
 
-      items_by_sound : ((a : List Lexeme) → IfSome (later a) (Found AreItems a)) → (a : List Lexeme) → IfSome (items_by sub locals deep later a) (Found AreItems a)
+      items_by_sound : ((a : List Lexeme) → IfSome (later a) (Found AreItems a)) → (a : List Lexeme) →
+          IfSome (items_by sub locals deep later a) (Found AreItems a)
       items_by_sound h [] = with_items h [] (deep []) (stated_sound [])
       items_by_sound h (at (k.Punct p.RightBrace) o ∷ t) = record { derives = g.no_items }
       items_by_sound h (o ∷ t) = with_items h (o ∷ t) _ (item_sound (o ∷ t) (begins_spec (o ∷ t)))
@@ -254,13 +276,17 @@ module _ (n : ℕ) (sub : ℕ → List Lexeme → Option (Read Expr)) (sound : (
     items_sound zero a = items_by_sound (λ t. None) (λ t. tt) a
     items_sound (suc m) a = items_by_sound (items sub locals deep m) (items_sound m) a
 
-    compound_sound : (o : Token) (t : List Lexeme) → IfSome (compound sub locals deep o.place t) (Found IsStmt (at (k.Punct p.LeftBrace) o ∷ t))
+    compound_sound : (o : Token) (t : List Lexeme) →
+        IfSome (compound sub locals deep o.place t) (Found IsStmt (at (k.Punct p.LeftBrace) o ∷ t))
     unfolding compound
-    compound_sound o t = bind_all _ _ (items sub locals deep (length t) t) _ (items_sound (length t) t) (λ xs d. record { derives = g.compound d.derives })
+    compound_sound o t =
+        bind_all _ _ (items sub locals deep (length t) t) _ (items_sound (length t) t) (λ xs d. record { derives = g.compound d.derives })
 
     evaluation_sound : (a : List Lexeme) → IfSome (evaluation sub locals deep a) (Found IsStmt a)
     unfolding evaluation
-    evaluation_sound a = bind_all _ _ (optional after_semicolon sub a) _ (optional_sound p.Semicolon after_semicolon after_semicolon_sound a) (λ x d. record { derives = g.evaluation d.derives })
+    evaluation_sound a =
+        bind_all _ _ (optional after_semicolon sub a) _ (optional_sound p.Semicolon after_semicolon after_semicolon_sound a)
+        (λ x d. record { derives = g.evaluation d.derives })
 
     condition_sound : (a : List Lexeme) → IfSome (condition sub locals deep a) (InParens a)
     unfolding condition
@@ -268,20 +294,33 @@ module _ (n : ℕ) (sub : ℕ → List Lexeme → Option (Read Expr)) (sound : (
         bind_all _ _ (after_left_paren a) _ (after_left_paren_sound a) (λ t begin.
         bind_all _ _ (sub e.expression t) _ (sound e.expression t) (λ x d.
         bind_all _ _ (after_right_paren x.rest) _ (after_right_paren_sound x.rest) (λ u close.
-        record { first = begin.0; inside = t; whole = begin.1; last = close.0; derives = subst (IsExpr e.expression t x.tree x.height) close.1 d.derives })))
+        record {
+          first = begin.0;
+          inside = t;
+          whole = begin.1;
+          last = close.0;
+          derives = subst (IsExpr e.expression t x.tree x.height) close.1 d.derives;
+        })))
 
-    if_only_at : (o : Token) (a : List Lexeme) (x : Read Expr) (y : Read Stmt) (u : List Lexeme) → InParens a x → IsStmt x.rest y.tree y.height u → begins_else u ≡ false →
+    if_only_at : (o : Token) (a : List Lexeme) (x : Read Expr) (y : Read Stmt) (u : List Lexeme) → InParens a x →
+        IsStmt x.rest y.tree y.height u → begins_else u ≡ false →
         Found IsStmt (at (k.Word w.If) o ∷ a) (found (st.If x.tree y.tree None o.place) (suc (max x.height y.height)) u)
     if_only_at o a x y u c f none =
-        record { derives = subst (λ l. IsStmt (at (k.Word w.If) o ∷ l) (st.If x.tree y.tree None o.place) (suc (max x.height y.height)) u) (sym c.whole) (g.if_only c.derives f none) }
+        record {
+          derives = subst (λ l. IsStmt (at (k.Word w.If) o ∷ l) (st.If x.tree y.tree None o.place) (suc (max x.height y.height)) u)
+              (sym c.whole) (g.if_only c.derives f none);
+        }
 
-    otherwise_sound : (o : Token) (a : List Lexeme) (x : Read Expr) (y : Read Stmt) (u : List Lexeme) → InParens a x → IsStmt x.rest y.tree y.height u →
+    otherwise_sound : (o : Token) (a : List Lexeme) (x : Read Expr) (y : Read Stmt) (u : List Lexeme) → InParens a x →
+        IsStmt x.rest y.tree y.height u →
         IfSome (otherwise sub locals deep o.place x.tree x.height y.tree y.height u) (Found IsStmt (at (k.Word w.If) o ∷ a))
     otherwise_sound o a x y [] c f = if_only_at o a x y [] c f refl
     otherwise_sound o a x y (at (k.Word w.Else) q ∷ u) c f =
         bind_all _ _ (deep u) _ (deep_sound u) (λ z i.
         record {
-          derives = subst (λ l. IsStmt (at (k.Word w.If) o ∷ l) (st.If x.tree y.tree (Some z.tree) o.place) (suc (max x.height (max y.height z.height))) z.rest) (sym c.whole)
+          derives =
+              subst (λ l. IsStmt (at (k.Word w.If) o ∷ l) (st.If x.tree y.tree (Some z.tree) o.place)
+              (suc (max x.height (max y.height z.height))) z.rest) (sym c.whole)
               (g.if_else c.derives f i.derives);
         })
     otherwise_sound o a x y (q ∷ u) c f = if_only_at o a x y (q ∷ u) c f refl
@@ -292,15 +331,19 @@ module _ (n : ℕ) (sub : ℕ → List Lexeme → Option (Read Expr)) (sound : (
         bind_all _ _ (condition sub locals deep a) _ (condition_sound a) (λ x c.
         bind_all _ _ (deep x.rest) _ (deep_sound x.rest) (λ y f. otherwise_sound o a x y y.rest c f.derives))
 
-    switch_sound : (o : Token) (a : List Lexeme) → IfSome (switch_read sub locals deep o.place a) (Found IsStmt (at (k.Word w.Switch) o ∷ a))
+    switch_sound : (o : Token) (a : List Lexeme) →
+        IfSome (switch_read sub locals deep o.place a) (Found IsStmt (at (k.Word w.Switch) o ∷ a))
     unfolding switch_read
     switch_sound o a =
         bind_all _ _ (condition sub locals deep a) _ (condition_sound a) (λ x c.
         bind_all _ _ (after_left_brace x.rest) _ (after_left_brace_sound x.rest) (λ t brace.
         bind_all _ _ (cases sub locals deep t) _ (cases_sound t) (λ ys f.
         record {
-          derives = subst (λ l. IsStmt (at (k.Word w.Switch) o ∷ l) (st.Switch x.tree ys.tree o.place) (suc (max x.height ys.height)) ys.rest) (sym c.whole)
-              (g.switch (subst (λ l. IsExpr e.expression c.inside x.tree x.height (at (k.Punct p.RightParen) c.last ∷ l)) brace.1 c.derives) f.derives);
+          derives =
+              subst (λ l. IsStmt (at (k.Word w.Switch) o ∷ l) (st.Switch x.tree ys.tree o.place) (suc (max x.height ys.height)) ys.rest)
+              (sym c.whole)
+              (g.switch (subst (λ l. IsExpr e.expression c.inside x.tree x.height (at (k.Punct p.RightParen) c.last ∷ l)) brace.1 c.derives)
+              f.derives);
         })))
 
     while_sound : (o : Token) (a : List Lexeme) → IfSome (while_read sub locals deep o.place a) (Found IsStmt (at (k.Word w.While) o ∷ a))
@@ -308,7 +351,10 @@ module _ (n : ℕ) (sub : ℕ → List Lexeme → Option (Read Expr)) (sound : (
     while_sound o a =
         bind_all _ _ (condition sub locals deep a) _ (condition_sound a) (λ x c.
         bind_all _ _ (deep x.rest) _ (deep_sound x.rest) (λ y f.
-        record { derives = subst (λ l. IsStmt (at (k.Word w.While) o ∷ l) (st.While x.tree y.tree o.place) (suc (max x.height y.height)) y.rest) (sym c.whole) (g.while c.derives f.derives) }))
+        record {
+          derives = subst (λ l. IsStmt (at (k.Word w.While) o ∷ l) (st.While x.tree y.tree o.place)
+              (suc (max x.height y.height)) y.rest) (sym c.whole) (g.while c.derives f.derives);
+        }))
 
     do_sound : (o : Token) (a : List Lexeme) → IfSome (do_read sub locals deep o.place a) (Found IsStmt (at (k.Word w.Do) o ∷ a))
     unfolding do_read
@@ -322,37 +368,48 @@ module _ (n : ℕ) (sub : ℕ → List Lexeme → Option (Read Expr)) (sound : (
               (subst (λ l. IsExpr e.expression c.inside x.tree x.height (at (k.Punct p.RightParen) c.last ∷ l)) end.1 c.derives);
         }))))
 
-    head_sound : (a : List Lexeme) (is_declared : Bool) → IfSome (if is_declared then head_local sub locals deep a else head_expr sub locals deep a) (Found IsForHead a)
+    head_sound : (a : List Lexeme) (is_declared : Bool) →
+        IfSome (if is_declared then head_local sub locals deep a else head_expr sub locals deep a) (Found IsForHead a)
     unfolding head_local head_expr
     head_sound a true = bind_all _ _ (locals a) _ (locals_sound a) (λ x d. record { derives = g.head_local d.derives })
-    head_sound a false = bind_all _ _ (optional after_semicolon sub a) _ (optional_sound p.Semicolon after_semicolon after_semicolon_sound a) (λ x d. record { derives = g.head_expr d.derives })
+    head_sound a false =
+        bind_all _ _ (optional after_semicolon sub a) _ (optional_sound p.Semicolon after_semicolon after_semicolon_sound a)
+        (λ x d. record { derives = g.head_expr d.derives })
 
     for_sound : (o : Token) (a : List Lexeme) → IfSome (for_read sub locals deep o.place a) (Found IsStmt (at (k.Word w.For) o ∷ a))
     unfolding for_read
     for_sound o a =
         bind_all _ _ (after_left_paren a) _ (after_left_paren_sound a) (λ b begin.
         bind_all _ _ (for_head sub locals deep b) _ (head_sound b (begins_spec b)) (λ x d.
-        bind_all _ _ (optional after_semicolon sub x.rest) _ (optional_sound p.Semicolon after_semicolon after_semicolon_sound x.rest) (λ y f.
-        bind_all _ _ (optional after_right_paren sub y.rest) _ (optional_sound p.RightParen after_right_paren after_right_paren_sound y.rest) (λ z i.
+        bind_all _ _ (optional after_semicolon sub x.rest) _
+        (optional_sound p.Semicolon after_semicolon after_semicolon_sound x.rest) (λ y f.
+        bind_all _ _ (optional after_right_paren sub y.rest) _
+        (optional_sound p.RightParen after_right_paren after_right_paren_sound y.rest) (λ z i.
         bind_all _ _ (deep z.rest) _ (deep_sound z.rest) (λ body j.
         record {
-          derives = subst (λ l. IsStmt (at (k.Word w.For) o ∷ l) (st.For x.tree y.tree z.tree body.tree o.place) (suc (max x.height (max y.height (max z.height body.height)))) body.rest)
+          derives =
+              subst (λ l. IsStmt (at (k.Word w.For) o ∷ l) (st.For x.tree y.tree z.tree body.tree o.place)
+              (suc (max x.height (max y.height (max z.height body.height)))) body.rest)
               (sym begin.1) (g.for d.derives f.derives i.derives j.derives);
         })))))
 
-    break_sound : (o : Token) (a : List Lexeme) → IfSome (jump sub locals deep (st.Break o.place) a) (Found IsStmt (at (k.Word w.Break) o ∷ a))
+    break_sound : (o : Token) (a : List Lexeme) →
+        IfSome (jump sub locals deep (st.Break o.place) a) (Found IsStmt (at (k.Word w.Break) o ∷ a))
     unfolding jump
     break_sound o a = bind_all _ _ (after_semicolon a) _ (after_semicolon_sound a) (λ t end.
         record { derives = subst (λ l. IsStmt (at (k.Word w.Break) o ∷ l) (st.Break o.place) 1 t) (sym end.1) g.break })
 
-    continue_sound : (o : Token) (a : List Lexeme) → IfSome (jump sub locals deep (st.Continue o.place) a) (Found IsStmt (at (k.Word w.Continue) o ∷ a))
+    continue_sound : (o : Token) (a : List Lexeme) →
+        IfSome (jump sub locals deep (st.Continue o.place) a) (Found IsStmt (at (k.Word w.Continue) o ∷ a))
     unfolding jump
     continue_sound o a = bind_all _ _ (after_semicolon a) _ (after_semicolon_sound a) (λ t end.
         record { derives = subst (λ l. IsStmt (at (k.Word w.Continue) o ∷ l) (st.Continue o.place) 1 t) (sym end.1) g.continue })
 
     return_sound : (o : Token) (a : List Lexeme) → IfSome (returned sub locals deep o.place a) (Found IsStmt (at (k.Word w.Return) o ∷ a))
     unfolding returned
-    return_sound o a = bind_all _ _ (optional after_semicolon sub a) _ (optional_sound p.Semicolon after_semicolon after_semicolon_sound a) (λ x d. record { derives = g.return d.derives })
+    return_sound o a =
+        bind_all _ _ (optional after_semicolon sub a) _ (optional_sound p.Semicolon after_semicolon after_semicolon_sound a)
+        (λ x d. record { derives = g.return d.derives })
 
     statement_by_sound : (a : List Lexeme) → IfSome (statement_by sub locals deep a) (Found IsStmt a)
     statement_by_sound [] = evaluation_sound []
@@ -373,4 +430,6 @@ local_sound_at n a = local_sound (declarator n) (declarator_sound n) (initialise
 pub statement_sound : (n : ℕ) (a : List Lexeme) → IfSome (statement n a) (Found IsStmt a)
 unfolding statement
 statement_sound zero a = tt
-statement_sound (suc n) a = statement_by_sound n (expression n) (expression_sound n) (local (declarator n) (initialiser n)) (local_sound_at n) (statement n) (statement_sound n) a
+statement_sound (suc n) a =
+    statement_by_sound n (expression n) (expression_sound n) (local (declarator n) (initialiser n)) (local_sound_at n) (statement n)
+    (statement_sound n) a

@@ -45,7 +45,8 @@ expression_once l h j s x y low d i =
     let e : found x h [] ≡ found y j [] = cc in
     (ap (λ r. r.tree) e, ap (λ r. r.height) e)
 
-pub begins_once : (types names others : List (List ℕ)) (s t u : List Token) (x y : External) → Begins types s x names t → Begins types s y others u → (x ≡ y) × (names ≡ others) × (t ≡ u)
+pub begins_once : (types names others : List (List ℕ)) (s t u : List Token) (x y : External) → Begins types s x names t
+    → Begins types s y others u → (x ≡ y) × (names ≡ others) × (t ≡ u)
 begins_once types names others s t u x y b c =
     let e = only types names others s t u x y b c in
     (ap (λ r. r.tree) e.0, ap (λ r. r.names) e.0, e.1)
@@ -69,11 +70,13 @@ derives_once s a b (f.derived e d c) (f.refused_syntax g h i) = let same = decla
 derives_once s a b (f.derived e d c) (f.derived g h i) = let same = declares_once [] s _ _ c i in cc
 
 -- every list derives something
-derives_declared : (s : List Token) (out : Declarations) → first_left_out s ≡ None → first_deep 0 s ≡ None → Declares [] s out → (r : Result FileTree Refusal) × Derives s r
+derives_declared : (s : List Token) (out : Declarations) → first_left_out s ≡ None → first_deep 0 s ≡ None → Declares [] s out
+    → (r : Result FileTree Refusal) × Derives s r
 derives_declared s (Ok xs) e d c = (_, f.derived e d c)
 derives_declared s (Err place) e d c = (_, f.refused_syntax e d c)
 
-derives_deep : (s : List Token) (o : Option Place) → first_left_out s ≡ None → first_deep 0 s ≡ o → (r : Result FileTree Refusal) × Derives s r
+derives_deep : (s : List Token) (o : Option Place) → first_left_out s ≡ None → first_deep 0 s ≡ o
+    → (r : Result FileTree Refusal) × Derives s r
 derives_deep s (Some place) e d = (_, f.deep e d)
 derives_deep s None e d = derives_declared s _ e d (file_declares (length s) [] s (omega arith))
 

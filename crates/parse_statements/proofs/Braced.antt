@@ -71,12 +71,15 @@ module _ (n : ℕ) where
     braced_end zero s t ends = rw (stmts_last b s, ends) (prepended_last xs h t)
     braced_end (suc m) s t ends = rw (stmts_on b m s, ends) (prepended_last xs h t)
 
-    pub braced_fail : (m : ℕ) (s t : List Lexeme) → body_end_at s ≡ (false, t) → item_of n b t ≡ None → prepended xs h (stmts_of n b (suc m) s) ≡ None
+    pub braced_fail : (m : ℕ) (s t : List Lexeme) → body_end_at s ≡ (false, t) → item_of n b t ≡ None →
+        prepended xs h (stmts_of n b (suc m) s) ≡ None
     braced_fail m s t ends none = rw (stmts_on b m s, ends, ap (item_of n b) (stays s t ends) ∙ none) refl
 
     pub braced_go : (m : ℕ) (s t : List Lexeme) (x : Read Stmt) → body_end_at s ≡ (false, t) → item_of n b t ≡ Some x →
         prepended xs h (stmts_of n b (suc m) s) ≡ prepended (xs ++ x.tree ∷ []) (max h x.height) (stmts_of n b m x.rest)
-    braced_go m s t x ends some = rw (stmts_on b m s, ends, ap (item_of n b) (stays s t ends) ∙ some) (prepended-prepended xs (x.tree ∷ []) h x.height (stmts_of n b m x.rest))
+    braced_go m s t x ends some =
+        rw (stmts_on b m s, ends, ap (item_of n b) (stays s t ends) ∙ some)
+        (prepended-prepended xs (x.tree ∷ []) h x.height (stmts_of n b m x.rest))
 
     pub braced_over : (s t : List Lexeme) → body_end_at s ≡ (false, t) → prepended xs h (stmts_of n b 0 s) ≡ None
     braced_over s t ends = rw (stmts_last b s, ends) (go (item_of n b s))

@@ -51,23 +51,27 @@ module _ {K : Type 0} (bytes : K → List ℕ) where
   chosen true keys key = refl
   chosen false keys key = map-append bytes keys (key ∷ [])
 
-  pub keys_pushed : (keys : List K) (key : K) → map bytes (insert_key (λ x y. bytes_eq (bytes x) (bytes y)) keys key) ≡ with_name (bytes key) (map bytes keys)
+  pub keys_pushed : (keys : List K) (key : K) →
+      map bytes (insert_key (λ x y. bytes_eq (bytes x) (bytes y)) keys key) ≡ with_name (bytes key) (map bytes keys)
   keys_pushed keys key = rw (has_keys keys (bytes key)) (chosen _ keys key)
 
 -- ---- Names that are added one by one
 
 has_equal : (names : List (List ℕ)) (name other : List ℕ) → has names name ≡ true → bytes_eq name other ≡ true → has names other ≡ true
-has_equal names name other there same = let e : name ≡ other = (bytes_eq-Decides name other).0 same in subst (λ n. has names n ≡ true) e there
+has_equal names name other there same =
+    let e : name ≡ other = (bytes_eq-Decides name other).0 same in subst (λ n. has names n ≡ true) e there
 
 absorbed : (x y : Bool) → (y ≡ true → x ≡ true) → x ≡ (x || (y || false))
 absorbed true y h = refl
 absorbed false true h = h refl
 absorbed false false h = refl
 
-added : (found : Bool) (names : List (List ℕ)) (name other : List ℕ) → has names name ≡ found → has (if found then names else names ++ name ∷ []) other ≡ has (names ++ name ∷ []) other
+added : (found : Bool) (names : List (List ℕ)) (name other : List ℕ) → has names name ≡ found →
+    has (if found then names else names ++ name ∷ []) other ≡ has (names ++ name ∷ []) other
 added false names name other e = refl
 added true names name other e =
-    absorbed (has names other) (bytes_eq name other) (has_equal names name other e) ∙ sym (list_any-append (λ n. bytes_eq n other) names (name ∷ []))
+    absorbed (has names other) (bytes_eq name other) (has_equal names name other e)
+    ∙ sym (list_any-append (λ n. bytes_eq n other) names (name ∷ []))
 
 -- a name that is there already changes nothing
 pub with_name_same : (names : List (List ℕ)) (name : List ℕ) → SameNames (with_name name names) (names ++ name ∷ [])
@@ -75,4 +79,5 @@ with_name_same names name other = added (has names name) names name other refl
 
 pub append_same : (a b names : List (List ℕ)) → SameNames a b → SameNames (a ++ names) (b ++ names)
 append_same a b names e name =
-    list_any-append (λ n. bytes_eq n name) a names ∙ ap (λ x. x || has names name) (e name) ∙ sym (list_any-append (λ n. bytes_eq n name) b names)
+    list_any-append (λ n. bytes_eq n name) a names ∙ ap (λ x. x || has names name) (e name)
+    ∙ sym (list_any-append (λ n. bytes_eq n name) b names)

@@ -13,7 +13,8 @@ pub no_more : {X : Type 0} {x : X} (f : ℕ → X) (n at : ℕ) → n ≤ at →
 no_more f n at done e = let none : n - at ≡ 0 = omega arith in e ∙ ap f none
 
 module _ {A : Type 0} where
-  pub prepended-prepended : (xs ys : List A) (h j : ℕ) (r : Option (Read (List A))) → prepended xs h (prepended ys j r) ≡ prepended (xs ++ ys) (max h j) r
+  pub prepended-prepended : (xs ys : List A) (h j : ℕ) (r : Option (Read (List A)))
+      → prepended xs h (prepended ys j r) ≡ prepended (xs ++ ys) (max h j) r
   prepended-prepended xs ys h j None = refl
   prepended-prepended xs ys h j (Some r) =
       let trees : xs ++ (ys ++ r.tree) ≡ (xs ++ ys) ++ r.tree = sym (append_assoc xs ys r.tree) in

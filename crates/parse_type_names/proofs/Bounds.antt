@@ -38,7 +38,8 @@ module _ (sub : ℕ → List Lexeme → Option (Read Expr)) (limit : ℕ) (place
   abbrev if_low : (Read Declarator → Option (Read Declarator)) → Read Declarator → Read (Option Expr) → Option (Read Declarator)
   if_low later x y = if nat_le (suc (max x.height y.height)) limit then later (one_more_bound x y) else None
 
-  behind_goes : (later : Read Declarator → Option (Read Declarator)) (x : Read Declarator) (s t : List Lexeme) → after_left_bracket s ≡ Some t →
+  behind_goes : (later : Read Declarator → Option (Read Declarator)) (x : Read Declarator) (s t : List Lexeme) →
+      after_left_bracket s ≡ Some t →
       arrays_behind sub limit place later start x s ≡ (bound sub t >>= λ y. if_low later x y)
   behind_goes later x [] t e = absurd (nothing_found e)
   behind_goes later x (at (k.Punct p.LeftBracket) o ∷ s) t e = ap (λ r. bound sub r >>= λ y. if_low later x y) (some_same e)
@@ -56,7 +57,8 @@ module _ (sub : ℕ → List Lexeme → Option (Read Expr)) (limit : ℕ) (place
     arrays_end zero e = behind_ends (λ y. None) (found x h s) s e
     arrays_end (suc m) e = behind_ends (arrays sub limit place m start) (found x h s) s e
 
-    pub arrays_full : (m : ℕ) (t : List Lexeme) → m ≡ 0 → after_left_bracket s ≡ Some t → arrays sub limit place m start (found x h s) ≡ None
+    pub arrays_full : (m : ℕ) (t : List Lexeme) → m ≡ 0 → after_left_bracket s ≡ Some t →
+        arrays sub limit place m start (found x h s) ≡ None
     unfolding arrays
     arrays_full zero t none e = behind_goes (λ y. None) (found x h s) s t e ∙ nothing_behind (bound sub t) _ (λ y. either_way _ None)
     arrays_full (suc m) t none e = cc
@@ -74,6 +76,7 @@ module _ (sub : ℕ → List Lexeme → Option (Read Expr)) (limit : ℕ) (place
         arrays sub limit place (suc m) start (found x h s) ≡ None
     arrays_fail m t e f = arrays_step m t e ∙ ap (λ (r : Option (Read Declarator)). r >>= arrays sub limit place m start) f
 
-    pub arrays_go : (m : ℕ) (t : List Lexeme) (y : Read Declarator) → after_left_bracket s ≡ Some t → with_bound sub limit start x h t ≡ Some y →
+    pub arrays_go : (m : ℕ) (t : List Lexeme) (y : Read Declarator) → after_left_bracket s ≡ Some t →
+        with_bound sub limit start x h t ≡ Some y →
         arrays sub limit place (suc m) start (found x h s) ≡ arrays sub limit place m start y
     arrays_go m t y e f = arrays_step m t e ∙ ap (λ (r : Option (Read Declarator)). r >>= arrays sub limit place m start) f

@@ -8,7 +8,8 @@ use Rattle.parse_tokens.specs.declared.faults.ParseFault.TheVariants as fault
 use Rattle.parse_tokens.specs.declared.faults.WithHeight.{WithHeight}
 use Rattle.parse_tokens.specs.Gives.{Gives}
 
-pub kept_gives : {A : Type 0} (read : Option (Read A)) (part : WithHeight A) (holds : Bool) (new : List Lexeme) (r : Result (WithHeight A) ParseFault) →
+pub kept_gives : {A : Type 0} (read : Option (Read A)) (part : WithHeight A) (holds : Bool) (new : List Lexeme)
+    (r : Result (WithHeight A) ParseFault) →
     IfOk r (λ x. (x ≡ part) × (holds ≡ true)) → IfErr r (λ e. (e ≡ fault.NoDerivation) × (holds ≡ false)) →
     (holds ≡ true → read ≡ Some (found part.tree part.height new)) → (holds ≡ false → read ≡ None) → Gives read r new
 kept_gives read part holds new (Ok x) ok err reads misses = rw ok.0 (reads ok.1)

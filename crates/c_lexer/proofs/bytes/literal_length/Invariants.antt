@@ -4,7 +4,10 @@ use Rattle.c_lexer.proofs.bytes.literal_length.Given as goal
 
 abbrev pub invariant-loop-end : goal.invariant-loop-end
 invariant-loop-end l = record {
-  same : (l.end + (literal_end l.close l.escapes l.escaped (drop l.end l.bytes)).0, (literal_end l.close l.escapes l.escaped (drop l.end l.bytes)).1) ≡ literal_end l.close l.escapes false l.bytes;
+  same : (
+    l.end + (literal_end l.close l.escapes l.escaped (drop l.end l.bytes)).0,
+    (literal_end l.close l.escapes l.escaped (drop l.end l.bytes)).1,
+  ) ≡ literal_end l.close l.escapes false l.bytes;
   within : l.end ≤ length l.bytes;
 }
 

@@ -6,7 +6,8 @@ pub returns-in_err-value : goal.returns-in_err-value
 returns-in_err-value c =
     let step = rw c.digit_value.ensures.value at c.with_digit.ensures in
     c.from_residual.ensures
-    ∙ sym (too_large c.args.base c.loop-b.value c.args.digits.now c.loop-b.b-index c.requires c.loop-b-test.true c.loop-b.invariant.same (sym (c.in_err-value.was {u = tt}) ∙ step))
+    ∙ sym (too_large c.args.base c.loop-b.value c.args.digits.now c.loop-b.b-index c.requires c.loop-b-test.true c.loop-b.invariant.same
+    (sym (c.in_err-value.was {u = tt}) ∙ step))
 
 pub loop-b-preserved : goal.loop-b-preserved
 loop-b-preserved c =
@@ -16,4 +17,6 @@ loop-b-preserved c =
     record { same = parts.0 ∙ same; fits = rw parts.0 parts.1 }
 
 pub returns : goal.returns
-returns c = all_digits c.args.base c.loop-b.value c.args.digits.now c.loop-b.b-index c.loop-b-test.false c.loop-b.invariant.same c.loop-b.invariant.fits
+returns c =
+    all_digits c.args.base c.loop-b.value c.args.digits.now c.loop-b.b-index c.loop-b-test.false c.loop-b.invariant.same
+    c.loop-b.invariant.fits

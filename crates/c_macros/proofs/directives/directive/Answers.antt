@@ -14,32 +14,38 @@ returns-then-is_empty c =
 pub returns-in-Elif : goal.returns-in-Elif
 returns-in-Elif c =
     same_move _ _ c.other_if.result _ _ _ _ _
-    (at_word (state_view c.args.st.now) c.args.hash.now c.args.line.now c.index-line-0.result (some_item c.args.line.now (sym c.if-is_empty.ensures)) _ c.in-Elif.ensures)
-    (other_line c.other_if.result (state_view c.args.st.now) c.args.count c.args.hash.now.place _ _ (reverse c.args.st.now.groups.items) (state_view c.other_if.new.st) c.args.done.now.items c.other_if.new.done.items
+    (at_word (state_view c.args.st.now) c.args.hash.now c.args.line.now c.index-line-0.result
+    (some_item c.args.line.now (sym c.if-is_empty.ensures)) _ c.in-Elif.ensures)
+    (other_line c.other_if.result (state_view c.args.st.now) c.args.count c.args.hash.now.place _ _ (reverse c.args.st.now.groups.items)
+    (state_view c.other_if.new.st) c.args.done.now.items c.other_if.new.done.items
     c.after-rest.ensures c.other_if.ensures)
 
 pub returns-in-Else : goal.returns-in-Else
 returns-in-Else c =
     same_move _ _ c.give.result _ _ _ _ _
-    (at_word (state_view c.args.st.now) c.args.hash.now c.args.line.now c.index-line-0.result (some_item c.args.line.now (sym c.if-is_empty.ensures)) _ c.in-Else.ensures)
+    (at_word (state_view c.args.st.now) c.args.hash.now c.args.line.now c.index-line-0.result
+    (some_item c.args.line.now (sym c.if-is_empty.ensures)) _ c.in-Else.ensures)
     (c.give.ensures (state_view c.args.st.now) (state_view c.otherwise.new.st) _ c.otherwise.ensures)
 
 pub returns-in-Endif : goal.returns-in-Endif
 returns-in-Endif c =
     same_move _ _ c.give-in-Endif.result _ _ _ _ _
-    (at_word (state_view c.args.st.now) c.args.hash.now c.args.line.now c.index-line-0.result (some_item c.args.line.now (sym c.if-is_empty.ensures)) _ c.in-Endif.ensures)
+    (at_word (state_view c.args.st.now) c.args.hash.now c.args.line.now c.index-line-0.result
+    (some_item c.args.line.now (sym c.if-is_empty.ensures)) _ c.in-Endif.ensures)
     (c.give-in-Endif.ensures (state_view c.args.st.now) (state_view c.end.new.st) _ c.end.ensures)
 
 pub returns-then-takes : goal.returns-then-takes
 returns-then-takes c =
     same_move _ _ c.taken_directive.result _ _ _ _ _
-    (where_taken (state_view c.args.st.now) c.args.hash.now c.args.line.now c.index-line-0.result (some_item c.args.line.now (sym c.if-is_empty.ensures)) c.directive_word.result c.directive_word.ensures
+    (where_taken (state_view c.args.st.now) c.args.hash.now c.args.line.now c.index-line-0.result
+    (some_item c.args.line.now (sym c.if-is_empty.ensures)) c.directive_word.result c.directive_word.ensures
     c.in_default.not-Elif c.in_default.not-Else c.in_default.not-Endif (sym (rw c.deref.ensures.value at c.if-takes.ensures)))
     (rw c.after-rest.ensures at c.taken_directive.ensures)
 
 pub returns-else-takes : goal.returns-else-takes
 returns-else-takes c =
     same_move _ _ c.skipped_directive.result _ _ _ _ _
-    (where_skipped (state_view c.args.st.now) c.args.hash.now c.args.line.now c.index-line-0.result (some_item c.args.line.now (sym c.if-is_empty.ensures)) c.directive_word.result c.directive_word.ensures
+    (where_skipped (state_view c.args.st.now) c.args.hash.now c.args.line.now c.index-line-0.result
+    (some_item c.args.line.now (sym c.if-is_empty.ensures)) c.directive_word.result c.directive_word.ensures
     c.in_default.not-Elif c.in_default.not-Else c.in_default.not-Endif (sym (rw c.deref.ensures.value at c.if-takes.ensures)))
     c.skipped_directive.ensures

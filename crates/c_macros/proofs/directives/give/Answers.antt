@@ -5,7 +5,8 @@ use Rattle.c_macros.proofs.directives.give.Goals as goal
 pub returns-in_err-token : goal.returns-in_err-token
 returns-in_err-token c = λ from st n g.
     let p = err_from_is_err_and c.from_residual.result c.from_residual.ensures.1 in
-    rw (p.1, p.2) (gives_fault from c.args.count st n c.args.done.now.items c.in_err-token.field-0.0 c.args.done.now.items (rw c.in_err-token.was at g))
+    rw (p.1, p.2) (gives_fault from c.args.count st n c.args.done.now.items c.in_err-token.field-0.0 c.args.done.now.items
+    (rw c.in_err-token.was at g))
 
 pub returns-in_ok-push : goal.returns-in_ok-push
 returns-in_ok-push c = λ from st n g.

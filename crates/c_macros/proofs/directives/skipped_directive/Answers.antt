@@ -7,5 +7,6 @@ use Rattle.c_macros.proofs.directives.skipped_directive.Goals as goal
 
 pub returns-in_default : goal.returns-in_default
 returns-in_default c =
-    let m = skips (state_view c.args.st.now) c.args.hash.now [] c.args.word c.in_default.not-If c.in_default.not-Ifdef c.in_default.not-Ifndef in
+    let m = skips (state_view c.args.st.now) c.args.hash.now [] c.args.word c.in_default.not-If c.in_default.not-Ifdef
+    c.in_default.not-Ifndef in
     ([], sym (append-nil c.args.done.now.items), rw m at_once)

@@ -13,7 +13,8 @@ returns-in-Nothing c =
 pub returns-in_err-count-in-Text : goal.returns-in_err-count-in-Text
 returns-in_err-count-in-Text c =
     let p = err_from_is_err_and c.from_residual.result c.from_residual.ensures.1 in
-    rw (p.1, p.2) (stopped _ _ _ _ _ _ _ c.parts.invariant.owed c.in_err-count-in-Text.field-0.0 _ _ (rw c.after-rest.ensures at c.in_err-count-in-Text.ensures))
+    rw (p.1, p.2) (stopped _ _ _ _ _ _ _ c.parts.invariant.owed c.in_err-count-in-Text.field-0.0 _ _
+    (rw c.after-rest.ensures at c.in_err-count-in-Text.ensures))
 
 pub parts-preserved-in-Text : goal.parts-preserved-in-Text
 parts-preserved-in-Text c =
@@ -27,7 +28,8 @@ parts-preserved-in-Text c =
 pub returns-in_err-count-in-Line : goal.returns-in_err-count-in-Line
 returns-in_err-count-in-Line c =
     let p = err_from_is_err_and c.from_residual-in_err-count-in-Line.result c.from_residual-in_err-count-in-Line.ensures.1 in
-    rw (p.1, p.2) (stopped _ _ _ _ _ _ _ c.parts.invariant.owed c.in_err-count-in-Line.field-0.0 _ _ (rw c.after-rest.ensures at c.in_err-count-in-Line.ensures))
+    rw (p.1, p.2) (stopped _ _ _ _ _ _ _ c.parts.invariant.owed c.in_err-count-in-Line.field-0.0 _ _
+    (rw c.after-rest.ensures at c.in_err-count-in-Line.ensures))
 
 pub parts-preserved : goal.parts-preserved
 parts-preserved c =

@@ -5,4 +5,5 @@ use Rattle.c_tokens.proofs.Spelled.{spells_so}
 use Rattle.c_tokens.proofs.spellings.constant.Goals as goal
 
 pub returns-clause-spells : goal.returns-clause-spells
-returns-clause-spells c = spells_so (λ v. v.items) c.quoted.result _ (k.CharConst c.args.b) c.quoted.ensures (spells_constant c.args.b (omega arith))
+returns-clause-spells c =
+    spells_so (λ v. v.items) c.quoted.result _ (k.CharConst c.args.b) c.quoted.ensures (spells_constant c.args.b (omega arith))

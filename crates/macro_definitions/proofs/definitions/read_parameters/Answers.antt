@@ -19,7 +19,9 @@ returns-then-closes c =
     let d = distinct_push (names c.loop-tokens.parameters.keys) c.in-Some.name.now c.loop-tokens.invariant.different
     (unknown c.in_ok-add_parameter.field-0 _ c.in_ok-add_parameter.ensures.new c.if-not-branch.false) in
     rw (c.in_ok-add_parameter.ensures.added c.if-not-branch.false, c.after-rest.ensures)
-    (last_one (names c.loop-tokens.parameters.keys) c.loop-tokens.tokens.now _ c.index-tokens-0.result (omega arith) c.loop-tokens.invariant.same c.index-tokens-1.result c.in-Some.name.now c.in-Some.ensures d (sym c.closes.ensures ∙ c.if-closes.true))
+    (last_one (names c.loop-tokens.parameters.keys) c.loop-tokens.tokens.now _ c.index-tokens-0.result
+    (omega arith) c.loop-tokens.invariant.same c.index-tokens-1.result c.in-Some.name.now c.in-Some.ensures d
+    (sym c.closes.ensures ∙ c.if-closes.true))
 
 pub loop-tokens-preserved : goal.loop-tokens-preserved
 loop-tokens-preserved c =
@@ -27,7 +29,8 @@ loop-tokens-preserved c =
     (unknown c.in_ok-add_parameter.field-0 _ c.in_ok-add_parameter.ensures.new c.if-not-branch.false) in record {
       different = rw (c.in_ok-add_parameter.ensures.added c.if-not-branch.false) d;
       same = rw (c.in_ok-add_parameter.ensures.added c.if-not-branch.false, c.after-rest.ensures)
-          (another_one (names c.loop-tokens.parameters.keys) c.loop-tokens.tokens.now _ c.index-tokens-0.result (omega arith) c.loop-tokens.invariant.same c.index-tokens-1.result c.in-Some.name.now c.in-Some.ensures
+          (another_one (names c.loop-tokens.parameters.keys) c.loop-tokens.tokens.now _ c.index-tokens-0.result
+          (omega arith) c.loop-tokens.invariant.same c.index-tokens-1.result c.in-Some.name.now c.in-Some.ensures
           (sym c.closes.ensures ∙ c.if-closes.false) (sym c.is_comma.ensures ∙ c.if-not-is_comma.false));
     }
 

@@ -19,21 +19,24 @@ returns-in-Ends-clause-found c =
 pub loop-item-preserved-in_ok-push-in-Parts : goal.loop-item-preserved-in_ok-push-in-Parts
 loop-item-preserved-in_ok-push-in-Parts c = record {
   same = rw (c.in_ok-push-in-Parts.ensures.ok, c.replace-whole.ensures.after, c.replace-whole.ensures.value, c.new.ensures.items, map_push)
-      (parts_here _ _ c.loop-item.nest (view c.in-Some.item) _ _ _ (left_pop _ _ _ c.in-Some.ensures.items) c.in-Parts.ensures.is c.loop-item.invariant.same);
+      (parts_here _ _ c.loop-item.nest (view c.in-Some.item) _ _ _
+      (left_pop _ _ _ c.in-Some.ensures.items) c.in-Parts.ensures.is c.loop-item.invariant.same);
   room = omega arith;
 }
 
 pub loop-item-preserved-in_ok-push-in-Parts-2 : goal.loop-item-preserved-in_ok-push-in-Parts-2
 loop-item-preserved-in_ok-push-in-Parts-2 c = record {
   same = rw (c.in_ok-push-in-Parts.ensures.ok, c.replace-whole.ensures.after, c.replace-whole.ensures.value, c.new.ensures.items, map_push)
-      (parts_here _ _ c.loop-item.nest (view c.in-Some.item) _ _ _ (left_pop _ _ _ c.in-Some.ensures.items) c.in-Parts.ensures.is c.loop-item.invariant.same);
+      (parts_here _ _ c.loop-item.nest (view c.in-Some.item) _ _ _
+      (left_pop _ _ _ c.in-Some.ensures.items) c.in-Parts.ensures.is c.loop-item.invariant.same);
   room = omega arith;
 }
 
 pub loop-item-preserved : goal.loop-item-preserved
 loop-item-preserved c = record {
   same = rw (c.in_ok-push-in-Goes.ensures.items, map_push)
-      (goes_on _ _ c.loop-item.nest c.in-Goes.now (view c.in-Some.item) _ _ _ (left_pop _ _ _ c.in-Some.ensures.items) c.in-Goes.ensures.is c.loop-item.invariant.same);
+      (goes_on _ _ c.loop-item.nest c.in-Goes.now (view c.in-Some.item) _ _ _
+      (left_pop _ _ _ c.in-Some.ensures.items) c.in-Goes.ensures.is c.loop-item.invariant.same);
   room = omega (arith, c.in-Goes.ensures.near, c.in-Some.ensures.cases);
 }
 

@@ -12,4 +12,9 @@ returns c =
     ∙ ap (λ (t : List (Bor (List ℕ))). t ++ c.split_at-2.result.1.now)
     (c.in_ok-extend_from_slice.ensures.ok ∙ ap (λ (t : List (Bor (List ℕ))). front ++ t) c.split_at.ensures.back)
     ∙ ap (λ (t : List (Bor (List ℕ))). (front ++ drop c.loop-i.i c.args.a.now) ++ t) c.split_at-2.ensures.back in
-    elim c.loop-i-test.branch [ then-loop-i-test+else-j-b w ↦ second_over front _ _ c.loop-i.i c.loop-i.j c.args.a.now c.args.b.now e c.loop-i.invariant.same w.if-j-b.false | else-loop-i-test w ↦ first_over front _ _ c.loop-i.i c.loop-i.j c.args.a.now c.args.b.now e c.loop-i.invariant.same w.loop-i-test.false ]
+    elim c.loop-i-test.branch [
+      | then-loop-i-test+else-j-b w ↦ second_over front _ _ c.loop-i.i c.loop-i.j c.args.a.now c.args.b.now e
+          c.loop-i.invariant.same w.if-j-b.false
+      | else-loop-i-test w ↦ first_over front _ _ c.loop-i.i c.loop-i.j c.args.a.now c.args.b.now e
+          c.loop-i.invariant.same w.loop-i-test.false
+    ]

@@ -5,7 +5,13 @@ use Rattle.macro_items.proofs.hide.shared.Goals.{then-loop-i-test+else-j-b, else
 use Rattle.macro_items.proofs.hide.shared.Goals as goal
 
 pub returns : goal.returns
-returns c = elim c.loop-i-test.branch [ then-loop-i-test+else-j-b w ↦ second_done _ c.args.a.now c.args.b.now _ c.loop-i.i c.loop-i.j c.loop-i.invariant.same w.if-j-b.false | else-loop-i-test w ↦ first_done _ c.args.a.now c.args.b.now _ c.loop-i.i c.loop-i.j c.loop-i.invariant.same w.loop-i-test.false ]
+returns c =
+    elim c.loop-i-test.branch [
+      | then-loop-i-test+else-j-b w ↦ second_done _ c.args.a.now c.args.b.now _ c.loop-i.i c.loop-i.j
+          c.loop-i.invariant.same w.if-j-b.false
+      | else-loop-i-test w ↦ first_done _ c.args.a.now c.args.b.now _ c.loop-i.i c.loop-i.j
+          c.loop-i.invariant.same w.loop-i-test.false
+    ]
 
 pub loop-i-preserved-in-Less : goal.loop-i-preserved-in-Less
 loop-i-preserved-in-Less c =
@@ -25,7 +31,9 @@ loop-i-preserved-in-Equal c =
     record {
       first = rest_ascends c.args.a.now c.loop-i.i c.loop-i-test.true c.loop-i.invariant.first;
       second = rest_ascends c.args.b.now c.loop-i.j c.if-j-b.true c.loop-i.invariant.second;
-      same = rw more (takes_both _ _ _ _ _ _ _ _ x y c.loop-i.invariant.first c.loop-i.invariant.second c.loop-i.invariant.same c.in-Equal.ensures);
+      same =
+          rw more (takes_both _ _ _ _ _ _ _ _ x y c.loop-i.invariant.first c.loop-i.invariant.second c.loop-i.invariant.same
+          c.in-Equal.ensures);
     }
 
 pub loop-i-preserved : goal.loop-i-preserved
@@ -35,5 +43,6 @@ loop-i-preserved c =
     record {
       first = c.loop-i.invariant.first;
       second = rest_ascends c.args.b.now c.loop-i.j c.if-j-b.true c.loop-i.invariant.second;
-      same = skips_second _ _ _ _ _ _ _ _ x y c.loop-i.invariant.first c.loop-i.invariant.second c.loop-i.invariant.same c.in-Greater.ensures;
+      same =
+          skips_second _ _ _ _ _ _ _ _ x y c.loop-i.invariant.first c.loop-i.invariant.second c.loop-i.invariant.same c.in-Greater.ensures;
     }

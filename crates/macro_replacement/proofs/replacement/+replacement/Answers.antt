@@ -20,13 +20,15 @@ make_ready-returns-in-Expanded-clause-outcome t c =
 
 pub make_ready-returns-in_ok-tokens-in-Written-clause-outcome : goal.make_ready-returns-in_ok-tokens-in-Written-clause-outcome
 make_ready-returns-in_ok-tokens-in-Written-clause-outcome t c =
-    is_expanded _ _ _ _ c.args.args.now c.args.k _ c.replace.new.dest c.in-Written.tokens c.reverse.new.self c.in_ok-tokens-in-Written.tokens c.requires.index c.index-args-k.is
+    is_expanded _ _ _ _ c.args.args.now c.args.k _ c.replace.new.dest c.in-Written.tokens c.reverse.new.self
+    c.in_ok-tokens-in-Written.tokens c.requires.index c.index-args-k.is
     (c.in-Written.ensures.value ∙ sym c.index-args-k.is) c.reverse.ensures.items c.in_ok-tokens-in-Written.ensures.outcome
 
 pub make_ready-returns-in_err-tokens-in-Written-clause-outcome : goal.make_ready-returns-in_err-tokens-in-Written-clause-outcome
 make_ready-returns-in_err-tokens-in-Written-clause-outcome t c =
     let p = err_from_is_err_and c.from_residual.result c.from_residual.ensures.1 in
-    rw (p.1, p.2) (is_refused c.in_err-tokens-in-Written.field-0.0 _ _ _ c.args.args.now c.args.k _ c.in-Written.tokens c.reverse.new.self c.requires.index c.index-args-k.is
+    rw (p.1, p.2) (is_refused c.in_err-tokens-in-Written.field-0.0 _ _ _ c.args.args.now c.args.k _ c.in-Written.tokens c.reverse.new.self
+    c.requires.index c.index-args-k.is
     (c.in-Written.ensures.value ∙ sym c.index-args-k.is) c.reverse.ensures.items c.in_err-tokens-in-Written.ensures.outcome)
 
 pub put-returns-clause-outcome : goal.put-returns-clause-outcome
@@ -50,7 +52,8 @@ stays-returns-then-passes_limit-clause-outcome t c =
     let m = c.in_ok-now-in-Becomes.ensures.outcome in
     let n = put_count c.turn_of.new.pending.items c.put.new.new.items m.0 c.len-start.result (omega arith) m.1 c.len.result (omega arith) in
     rw c.refused-then-passes_limit.ensures
-    (count_refused _ _ _ (view c.args.item.now) _ _ c.in-Some.ensures _ f m.0 c.in_ok-now-in-Becomes.now m.2 (omega (arith, n, c.if-passes_limit.ensures)))
+    (count_refused _ _ _ (view c.args.item.now) _ _ c.in-Some.ensures _ f m.0 c.in_ok-now-in-Becomes.now m.2
+    (omega (arith, n, c.if-passes_limit.ensures)))
 
 pub stays-returns-else-passes_limit-clause-outcome : goal.stays-returns-else-passes_limit-clause-outcome
 stays-returns-else-passes_limit-clause-outcome t c =
@@ -58,8 +61,10 @@ stays-returns-else-passes_limit-clause-outcome t c =
     let m = c.in_ok-now-in-Becomes.ensures.outcome in
     let start : c.len-start.result ≡ length c.turn_of.new.pending.items = omega arith in
     let n = put_count c.turn_of.new.pending.items c.put.new.new.items m.0 c.len-start.result start m.1 c.len.result (omega arith) in
-    let back = put_back c.turn_of.new.pending.items c.put.new.new.items m.0 c.len-start.result start m.1 c.reverse_from.new.list.items c.reverse_from.ensures in
-    rw (n, back) (it_becomes _ _ _ (view c.args.item.now) _ _ c.in-Some.ensures _ f m.0 c.in_ok-now-in-Becomes.now m.2 (omega (arith, n, c.if-passes_limit.ensures)))
+    let back = put_back c.turn_of.new.pending.items c.put.new.new.items m.0 c.len-start.result start m.1 c.reverse_from.new.list.items
+    c.reverse_from.ensures in
+    rw (n, back) (it_becomes _ _ _ (view c.args.item.now) _ _ c.in-Some.ensures _ f m.0 c.in_ok-now-in-Becomes.now m.2
+    (omega (arith, n, c.if-passes_limit.ensures)))
 
 pub expand_into-loop-item-preserved-in-Continue-branch-2 : goal.expand_into-loop-item-preserved-in-Continue-branch-2
 expand_into-loop-item-preserved-in-Continue-branch-2 t c =
@@ -85,16 +90,19 @@ pub substitute-loop-part-preserved : goal.substitute-loop-part-preserved
 substitute-loop-part-preserved t c =
     elim c.match-part.branch [
       | substitute-in-Plain+in_ok-push_replacing-in-Plain w ↦
-          let o = rw (dropped c.args.list.now.body.now c.loop-part.part-index c.part-item.result (Plain w.in-Plain.kind w.in-Plain.spaced) (omega arith) (sym c.part-item.is ∙ w.in-Plain.is)) at c.loop-part.invariant.owed in record {
+          let o = rw (dropped c.args.list.now.body.now c.loop-part.part-index c.part-item.result (Plain w.in-Plain.kind w.in-Plain.spaced)
+          (omega arith) (sym c.part-item.is ∙ w.in-Plain.is)) at c.loop-part.invariant.owed in record {
             deep = rw w.args-is c.loop-part.invariant.deep;
             from = rw w.count-is c.loop-part.invariant.from;
             owed = rw (w.new-is, w.args-is, w.count-is)
                 (adds_plain _ _ _ _ _ _ _ _ _ _ _ w.in-Plain.kind.now w.in-Plain.spaced _ _ w.in_ok-push_replacing-in-Plain.ensures o);
           }
       | substitute-in-Parameter+then-k-args+in_ok-count-in-Parameter+in_ok-push_hidden-in-Parameter w ↦
-          let o = rw (dropped c.args.list.now.body.now c.loop-part.part-index c.part-item.result (Parameter w.in-Parameter.k) (omega arith) (sym c.part-item.is ∙ w.in-Parameter.is)) at c.loop-part.invariant.owed in
+          let o = rw (dropped c.args.list.now.body.now c.loop-part.part-index c.part-item.result (Parameter w.in-Parameter.k) (omega arith)
+          (sym c.part-item.is ∙ w.in-Parameter.is)) at c.loop-part.invariant.owed in
           let text = w.text.ensures
-          ∙ sym (text_at w.make_ready.new.args w.in-Parameter.k w.index-args-k.result (omega (arith, w.in_ok-count-in-Parameter.ensures.len))) in
+          ∙ sym (text_at w.make_ready.new.args w.in-Parameter.k w.index-args-k.result
+          (omega (arith, w.in_ok-count-in-Parameter.ensures.len))) in
           let put = w.in_ok-push_hidden-in-Parameter.ensures
           ∙ ap (λ (ts : List Item). views c.loop-part.new.items ++ map (hidden (has c.args.list.now.hides.new)) ts) text in record {
             deep = λ h. c.loop-part.invariant.deep
@@ -104,20 +112,24 @@ substitute-loop-part-preserved t c =
                 (adds_parameter _ _ _ _ _ _ _ _ _ _ _ w.in-Parameter.k _ _ _ _ w.in_ok-count-in-Parameter.ensures.outcome put o);
           }
       | substitute-in-Parameter+else-k-args w ↦
-          let o = rw (dropped c.args.list.now.body.now c.loop-part.part-index c.part-item.result (Parameter w.in-Parameter.k) (omega arith) (sym c.part-item.is ∙ w.in-Parameter.is)) at c.loop-part.invariant.owed in
+          let o = rw (dropped c.args.list.now.body.now c.loop-part.part-index c.part-item.result (Parameter w.in-Parameter.k) (omega arith)
+          (sym c.part-item.is ∙ w.in-Parameter.is)) at c.loop-part.invariant.owed in
           let none = is_absent _ _ _ c.loop-part.args w.in-Parameter.k (omega arith) in record {
             deep = rw w.args-is c.loop-part.invariant.deep;
             from = rw w.count-is c.loop-part.invariant.from;
             owed = rw (w.new-is, w.args-is, w.count-is)
-                (adds_parameter _ _ _ _ _ _ _ _ _ _ _ w.in-Parameter.k _ _ _ _ none (rw (text_absent c.loop-part.args w.in-Parameter.k (omega arith), append-nil) refl) o);
+                (adds_parameter _ _ _ _ _ _ _ _ _ _ _ w.in-Parameter.k _ _ _ _ none
+                (rw (text_absent c.loop-part.args w.in-Parameter.k (omega arith), append-nil) refl) o);
           }
     ]
 
 pub substitute-returns-in_err-count-in-Parameter-clause-outcome : goal.substitute-returns-in_err-count-in-Parameter-clause-outcome
 substitute-returns-in_err-count-in-Parameter-clause-outcome t c =
     let p = err_from_is_err_and c.from_residual-in_err-count-in-Parameter.result c.from_residual-in_err-count-in-Parameter.ensures.1 in
-    let o = rw (dropped c.args.list.now.body.now c.loop-part.part-index c.part-item.result (Parameter c.in-Parameter.k) (omega arith) (sym c.part-item.is ∙ c.in-Parameter.is)) at c.loop-part.invariant.owed in
-    rw (p.1, p.2) (parameter_refused _ _ _ _ _ _ _ _ _ _ c.in_err-count-in-Parameter.field-0.0 c.in-Parameter.k _ c.in_err-count-in-Parameter.ensures.outcome o.owed)
+    let o = rw (dropped c.args.list.now.body.now c.loop-part.part-index c.part-item.result (Parameter c.in-Parameter.k) (omega arith)
+    (sym c.part-item.is ∙ c.in-Parameter.is)) at c.loop-part.invariant.owed in
+    rw (p.1, p.2) (parameter_refused _ _ _ _ _ _ _ _ _ _ c.in_err-count-in-Parameter.field-0.0 c.in-Parameter.k _
+    c.in_err-count-in-Parameter.ensures.outcome o.owed)
 
 pub substitute-returns-clause-outcome : goal.substitute-returns-clause-outcome
 substitute-returns-clause-outcome t c =

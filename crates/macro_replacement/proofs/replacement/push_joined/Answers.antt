@@ -11,5 +11,6 @@ pub loop-item-preserved : goal.loop-item-preserved
 loop-item-preserved c = record {
   joined = rw c.in_ok-follow.ensures.own c.in_ok-follow.ensures.both;
   pushed = rw c.in_ok-push.ensures.items
-      (hidden_more _ _ _ _ c.item-item.result c.in_ok-with_hide.field-0 (has c.args.hides.now.new) _ (omega arith) c.item-item.is c.in_ok-with_hide.ensures c.in_ok-follow.ensures.both c.loop-item.invariant.pushed);
+      (hidden_more _ _ _ _ c.item-item.result c.in_ok-with_hide.field-0 (has c.args.hides.now.new) _
+      (omega arith) c.item-item.is c.in_ok-with_hide.ensures c.in_ok-follow.ensures.both c.loop-item.invariant.pushed);
 }

@@ -15,19 +15,27 @@ at place = Err place
 
 pub returns-in_default : goal.returns-in_default
 returns-in_default c =
-    let e = one_more (λ n. behind_all c.loop-turn.found (file highest_part n c.loop-turn.types c.loop-turn.rest.now)) _ c.loop-turn._turn c.loop-turn-test.true c.loop-turn.invariant in
+    let e = one_more (λ n. behind_all c.loop-turn.found (file highest_part n c.loop-turn.types c.loop-turn.rest.now)) _ c.loop-turn._turn
+    c.loop-turn-test.true c.loop-turn.invariant in
     rw c.finish.ensures (e ∙ file_end highest_part _ _ _ _ c.in_default.ensures)
 
 pub returns-in-Err-NoDerivation : goal.returns-in-Err-NoDerivation
 returns-in-Err-NoDerivation c =
-    let e = one_more (λ n. behind_all c.loop-turn.found (file highest_part n c.loop-turn.types c.loop-turn.rest.now)) _ c.loop-turn._turn c.loop-turn-test.true c.loop-turn.invariant in
+    let e = one_more (λ n. behind_all c.loop-turn.found (file highest_part n c.loop-turn.types c.loop-turn.rest.now)) _ c.loop-turn._turn
+    c.loop-turn-test.true c.loop-turn.invariant in
     let first = c.in-Some.ensures in
-    let other : c.in-Err-NoDerivation.field-0 ≢ fault.NoMemory = λ is. let both : fault.NoDerivation ≡ fault.NoMemory = sym c.in-Err-NoDerivation.field-0-is ∙ is in cc in
-    rw c.refused.ensures (refl, e ∙ file_refused highest_part _ _ _ first.0 first.1 _ first.2 (c.in-Err-NoDerivation.ensures.refused other) ∙ ap at (sym first.3))
+    let other : c.in-Err-NoDerivation.field-0 ≢ fault.NoMemory = λ is. let both : fault.NoDerivation
+    ≡ fault.NoMemory = sym c.in-Err-NoDerivation.field-0-is ∙ is in cc in
+    rw c.refused.ensures (
+      refl,
+      e ∙ file_refused highest_part _ _ _ first.0 first.1 _ first.2 (c.in-Err-NoDerivation.ensures.refused other)
+          ∙ ap at (sym first.3),
+    )
 
 pub loop-turn-preserved : goal.loop-turn-preserved
 loop-turn-preserved c =
-    let e = one_more (λ n. behind_all c.loop-turn.found (file highest_part n c.loop-turn.types c.loop-turn.rest.now)) _ c.loop-turn._turn c.loop-turn-test.true c.loop-turn.invariant in
+    let e = one_more (λ n. behind_all c.loop-turn.found (file highest_part n c.loop-turn.types c.loop-turn.rest.now)) _ c.loop-turn._turn
+    c.loop-turn-test.true c.loop-turn.invariant in
     let first = c.in-Some.ensures in
     let read = c.in-Ok.ensures.found in
     let types = c.loop-turn.types in
@@ -49,11 +57,13 @@ loop-turn-preserved c =
 
 pub returns-in-None : goal.returns-in-None
 returns-in-None c =
-    let e = no_more (λ n. behind_all c.loop-turn.found (file highest_part n c.loop-turn.types c.loop-turn.rest.now)) _ c.loop-turn._turn c.loop-turn-test.false c.loop-turn.invariant in
+    let e = no_more (λ n. behind_all c.loop-turn.found (file highest_part n c.loop-turn.types c.loop-turn.rest.now)) _ c.loop-turn._turn
+    c.loop-turn-test.false c.loop-turn.invariant in
     rw c.finish-in-None.ensures (e ∙ file_end highest_part _ _ _ _ c.in-None.ensures)
 
 pub returns : goal.returns
 returns c =
-    let e = no_more (λ n. behind_all c.loop-turn.found (file highest_part n c.loop-turn.types c.loop-turn.rest.now)) _ c.loop-turn._turn c.loop-turn-test.false c.loop-turn.invariant in
+    let e = no_more (λ n. behind_all c.loop-turn.found (file highest_part n c.loop-turn.types c.loop-turn.rest.now)) _ c.loop-turn._turn
+    c.loop-turn-test.false c.loop-turn.invariant in
     let first = c.in-Some-first_place.ensures in
     rw c.refused-in-Some-first_place.ensures (refl, e ∙ file_over highest_part _ _ _ first.0 first.1 first.2 ∙ ap at (sym first.3))

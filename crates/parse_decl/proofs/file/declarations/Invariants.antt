@@ -4,4 +4,5 @@ use Rattle.parse_decl.proofs.FileSteps.{behind_all}
 use Rattle.parse_decl.proofs.file.declarations.Given as goal
 
 abbrev pub invariant-loop-turn : goal.invariant-loop-turn
-invariant-loop-turn l = file highest_part (length l.tokens) [] l.tokens ≡ behind_all l.found (file highest_part (l._turn-end - l._turn) l.types l.rest)
+invariant-loop-turn l =
+    file highest_part (length l.tokens) [] l.tokens ≡ behind_all l.found (file highest_part (l._turn-end - l._turn) l.types l.rest)

@@ -14,7 +14,8 @@ loop-name-preserved c = λ other.
     let copied : item ≡ n = sym (c.in_ok-from_bytes.ensures ∙ c.bytes.ensures) in
     let grown : take (i + 1) names ≡ take i names ++ n ∷ [] =
     take_more names i item c.loop-name-test.true ∙ ap (λ x. take i names ++ x ∷ []) (sym c.name-item.is ∙ copied) in
-    let longer : (old ++ take i names) ++ n ∷ [] ≡ old ++ take (i + 1) names = append_assoc old (take i names) (n ∷ []) ∙ ap (λ l. old ++ l) (sym grown) in
+    let longer : (old ++ take i names) ++ n ∷ [] ≡ old ++ take (i + 1) names = append_assoc old (take i names) (n ∷ [])
+    ∙ ap (λ l. old ++ l) (sym grown) in
     let added = c.in_ok-push.ensures in
     ap (λ l. has l other) added.ok ∙ with_name_same c.loop-name.types n other
     ∙ append_same c.loop-name.types (old ++ take i names) (n ∷ []) c.loop-name.invariant other ∙ ap (λ l. has l other) longer

@@ -9,12 +9,16 @@ returns-in-Some c = rw c.refused.ensures (f.left_out (sym c.left_out_keyword.ens
 
 pub returns-in-Some-deep_bracket : goal.returns-in-Some-deep_bracket
 returns-in-Some-deep_bracket c =
-    rw c.refused-in-Some-deep_bracket.ensures (f.deep (sym c.left_out_keyword.ensures ∙ c.in_default.is) (sym c.deep_bracket.ensures ∙ c.in-Some-deep_bracket.is))
+    rw c.refused-in-Some-deep_bracket.ensures (f.deep (sym c.left_out_keyword.ensures ∙ c.in_default.is)
+    (sym c.deep_bracket.ensures ∙ c.in-Some-deep_bracket.is))
 
 pub returns-in_err-externals : goal.returns-in_err-externals
 returns-in_err-externals c =
     let same : IsErrAnd c.from_residual.result (λ f. c.in_err-externals.field-0.0 ≡ f) = search rules in
-    err_derives _ _ _ (sym c.left_out_keyword.ensures ∙ c.in_default.is) (sym c.deep_bracket.ensures ∙ c.in_default-deep_bracket.is) same c.in_err-externals.ensures
+    err_derives _ _ _ (sym c.left_out_keyword.ensures ∙ c.in_default.is)
+    (sym c.deep_bracket.ensures ∙ c.in_default-deep_bracket.is) same c.in_err-externals.ensures
 
 pub returns : goal.returns
-returns c = derives_read _ _ (sym c.left_out_keyword.ensures ∙ c.in_default.is) (sym c.deep_bracket.ensures ∙ c.in_default-deep_bracket.is) c.in_ok-externals.ensures
+returns c =
+    derives_read _ _ (sym c.left_out_keyword.ensures ∙ c.in_default.is)
+    (sym c.deep_bracket.ensures ∙ c.in_default-deep_bracket.is) c.in_ok-externals.ensures

@@ -7,7 +7,8 @@ use Rattle.parse_declarators.proofs.declarators.take_openings.Given as goal
 abbrev pub invariant-loop-outer : goal.invariant-loop-outer
 invariant-loop-outer l = record {
   on : length l.tokens ≤ length l.fn.tokens;
-  inside : (n : ℕ) → Inside n (whole (suc n) (expression n) (declarator n) (suc (length l.fn.tokens)) l.fn.tokens) l.outer l.inmost l.tokens;
+  inside : (n : ℕ) → Inside n (whole (suc n) (expression n) (declarator n) (suc (length l.fn.tokens)) l.fn.tokens) l.outer
+      l.inmost l.tokens;
 }
 
 abbrev pub decreases-loop-outer : goal.decreases-loop-outer

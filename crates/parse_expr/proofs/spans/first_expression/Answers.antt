@@ -18,7 +18,8 @@ pub returns-in_err-found-clause-none : goal.returns-in_err-found-clause-none
 returns-in_err-found-clause-none c =
     let form = c.args.form in
     let whole = span (ends_at_commas form) 0 0 c.args.tokens.now in
-    let same = front_read c.args.names.now form c.args.tokens.now c.ends_at_commas.result c.level.result c.span_len-len.result c.new-rest.result
+    let same = front_read c.args.names.now form c.args.tokens.now c.ends_at_commas.result c.level.result c.span_len-len.result
+    c.new-rest.result
     c.ends_at_commas.ensures c.level.ensures c.span_len-len.ensures.len c.new-rest.ensures in
     let misses : c.in_err-found.field-0.0 ≡ fault.NoDerivation → (x : Expr) → ¬ (Spells c.args.names.now (level_of form) whole x) =
     λ e. none_spelled c.args.names.now form whole (sym same ∙ c.in_err-found.ensures.reads (λ m. cc (e, m))) in
@@ -29,20 +30,24 @@ pub returns-clause-expression : goal.returns-clause-expression
 returns-clause-expression c =
     let form = c.args.form in
     let whole = span (ends_at_commas form) 0 0 c.args.tokens.now in
-    let same = front_read c.args.names.now form c.args.tokens.now c.ends_at_commas.result c.level.result c.span_len-len.result c.new-rest.result
+    let same = front_read c.args.names.now form c.args.tokens.now c.ends_at_commas.result c.level.result c.span_len-len.result
+    c.new-rest.result
     c.ends_at_commas.ensures c.level.ensures c.span_len-len.ensures.len c.new-rest.ensures in
     let none = none_left c.left.result c.in_ok-tree.ensures.ok.1 in
     rw c.in_ok-tree.ensures.ok.0
-    (read_spells c.args.names.now form whole c.in_ok-found.found.tree c.in_ok-found.found.height c.expression.new.tokens (omega (arith, c.left.ensures.all, none))
+    (read_spells c.args.names.now form whole c.in_ok-found.found.tree c.in_ok-found.found.height c.expression.new.tokens
+    (omega (arith, c.left.ensures.all, none))
     (sym same ∙ c.in_ok-found.ensures.reads))
 
 pub returns-in_err-tree-clause-none : goal.returns-in_err-tree-clause-none
 returns-in_err-tree-clause-none c =
     let form = c.args.form in
     let whole = span (ends_at_commas form) 0 0 c.args.tokens.now in
-    let same = front_read c.args.names.now form c.args.tokens.now c.ends_at_commas.result c.level.result c.span_len-len.result c.new-rest.result
+    let same = front_read c.args.names.now form c.args.tokens.now c.ends_at_commas.result c.level.result c.span_len-len.result
+    c.new-rest.result
     c.ends_at_commas.ensures c.level.ensures c.span_len-len.ensures.len c.new-rest.ensures in
     let some = some_left c.left.result c.in_err-tree.ensures.err.1 in
     let left = err_from_is_err_and c.from_residual-in_err-tree.result c.from_residual-in_err-tree.ensures.1 in
-    rw left.1 (λ _. more_left c.args.names.now form whole c.in_ok-found.found.tree c.in_ok-found.found.height c.expression.new.tokens (omega (arith, c.left.ensures.all, some))
+    rw left.1 (λ _. more_left c.args.names.now form whole c.in_ok-found.found.tree c.in_ok-found.found.height c.expression.new.tokens
+    (omega (arith, c.left.ensures.all, some))
     (sym same ∙ c.in_ok-found.ensures.reads))

@@ -16,4 +16,5 @@ returns-clause-on t c =
     let read = spec.expression c.args.depth c.args.level c.args.tokens.now in
     let reads : Gives read c.level_up_to.result c.level_up_to.new.tokens =
     rw (expression_deeper c.args.depth c.args.level c.args.tokens.now (omega arith)) c.level_up_to.ensures.reads in
-    shorter_given read c.level_up_to.result c.args.tokens.now c.level_up_to.new.tokens reads (expression_shorter c.args.depth c.args.level c.args.tokens.now)
+    shorter_given read c.level_up_to.result c.args.tokens.now c.level_up_to.new.tokens reads
+    (expression_shorter c.args.depth c.args.level c.args.tokens.now)

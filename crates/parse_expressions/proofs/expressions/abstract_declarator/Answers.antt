@@ -5,5 +5,6 @@ use Rattle.parse_expressions.proofs.expressions.abstract_declarator.Goals as goa
 
 pub returns-clause-on : goal.returns-clause-on
 returns-clause-on c =
-    kept_given (spec.abstract (spec.expression c.args.depth) (suc c.args.depth) c.args.place c.args.tokens.now) c.abstract_declarator.result c.args.tokens.now c.abstract_declarator.new.tokens
+    kept_given (spec.abstract (spec.expression c.args.depth) (suc c.args.depth) c.args.place c.args.tokens.now) c.abstract_declarator.result
+    c.args.tokens.now c.abstract_declarator.new.tokens
     c.abstract_declarator.ensures.reads (abstract_kept c.args.depth (suc c.args.depth) c.args.place c.args.tokens.now)

@@ -24,7 +24,9 @@ returns-else-takes_brace c =
 pub returns-in_err-specs : goal.returns-in_err-specs
 returns-in_err-specs c =
     let missed = rw c.in_err-specs.ensures.err at c.declarator-first.ensures.reads in
-    let none : c.in_err-specs.field-0.0 ≢ fault.NoMemory → declaration c.args.depth c.args.place (found (specs_of c.args.specs.tree) c.args.specs.height c.args.tokens.now) c.args.tokens.now ≡ None =
+    let none : c.in_err-specs.field-0.0 ≢ fault.NoMemory
+    → declaration c.args.depth c.args.place (found (specs_of c.args.specs.tree) c.args.specs.height c.args.tokens.now)
+    c.args.tokens.now ≡ None =
     λ other. declaration_fails _ _ _ _ (missed other) in
     let same : IsErrAnd c.from_residual.result (λ f. c.in_err-specs.field-0.0 ≡ f) = search rules in
     err_gives_as _ _ _ _ _ same none

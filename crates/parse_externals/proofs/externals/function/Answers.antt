@@ -23,7 +23,9 @@ pub returns-in_err-first : goal.returns-in_err-first
 returns-in_err-first c =
     let inner = rw c.in_err-first.ensures.err at c.both-parts.ensures.err in
     let missed = rw inner at c.block_items-items.ensures.reads in
-    let none : c.in_err-first.field-0.0 ≢ fault.NoMemory → body c.args.depth c.args.place (found (specs_of c.args.specs.tree) c.args.specs.height c.args.tokens.now) (found (named_of c.args.first.tree) c.args.first.height c.args.tokens.now) c.args.start c.args.tokens.now ≡ None =
+    let none : c.in_err-first.field-0.0 ≢ fault.NoMemory
+    → body c.args.depth c.args.place (found (specs_of c.args.specs.tree) c.args.specs.height c.args.tokens.now)
+    (found (named_of c.args.first.tree) c.args.first.height c.args.tokens.now) c.args.start c.args.tokens.now ≡ None =
     λ other. body_fails _ _ _ _ _ _ (missed other) in
     let same : IsErrAnd c.from_residual.result (λ f. c.in_err-first.field-0.0 ≡ f) = search rules in
     err_gives_as _ _ _ _ _ same none

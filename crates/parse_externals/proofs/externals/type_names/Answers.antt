@@ -15,7 +15,8 @@ names_declared : (xs : List Declared) → map (λ (one : Declared). one.name.now
 names_declared [] = refl
 names_declared (x ∷ xs) = ap (λ l. x.name.now ∷ l) (names_declared xs)
 
-types_declared : (a : Tally) (xs : List Declared) → a.typedef ≢ 0 → map (λ (one : Declared). one.name.now) xs ≡ type_names (tally_of a) (map declared_of xs)
+types_declared : (a : Tally) (xs : List Declared) → a.typedef ≢ 0
+    → map (λ (one : Declared). one.name.now) xs ≡ type_names (tally_of a) (map declared_of xs)
 types_declared a xs some = rw (other_number a.typedef some) (names_declared xs)
 
 pub returns-in_ok-names-clause-names : goal.returns-in_ok-names-clause-names

@@ -12,7 +12,9 @@ use Rattle.parse_initialisers.proofs.declarations.init_declarator.Goals as goal
 pub returns-in_err-named-clause-reads : goal.returns-in_err-named-clause-reads
 returns-in_err-named-clause-reads c =
     let missed = rw c.in_err-named.ensures.err at c.attribute_lists-lists.ensures in
-    let none : c.in_err-named.field-0.0 ≢ fault.NoMemory → init_declarator_from (declarator c.args.depth) (initialiser c.args.depth) (named_of c.args.first.tree) c.args.first.height c.args.tokens.now ≡ None =
+    let none : c.in_err-named.field-0.0 ≢ fault.NoMemory
+    → init_declarator_from (declarator c.args.depth) (initialiser c.args.depth)
+    (named_of c.args.first.tree) c.args.first.height c.args.tokens.now ≡ None =
     λ other. from_no_lists _ _ _ _ _ (missed other) in
     let same : IsErrAnd c.from_residual.result (λ f. c.in_err-named.field-0.0 ≡ f) = search rules in
     err_gives_as _ _ _ _ _ same none
@@ -22,7 +24,9 @@ returns-in_err-declarator-clause-reads c =
     let lists = rw c.in_ok-named.ensures.ok.1 at c.attribute_lists-lists.ensures in
     let inner = rw c.in_err-declarator.ensures.err at c.both-parts.ensures.err in
     let missed = rw inner at c.init_part-init.ensures.reads in
-    let none : c.in_err-declarator.field-0.0 ≢ fault.NoMemory → init_declarator_from (declarator c.args.depth) (initialiser c.args.depth) (named_of c.args.first.tree) c.args.first.height c.args.tokens.now ≡ None =
+    let none : c.in_err-declarator.field-0.0 ≢ fault.NoMemory
+    → init_declarator_from (declarator c.args.depth) (initialiser c.args.depth)
+    (named_of c.args.first.tree) c.args.first.height c.args.tokens.now ≡ None =
     λ other. from_no_init _ _ _ _ _ _ _ lists (missed other) in
     let same : IsErrAnd c.from_residual-in_err-declarator.result (λ f. c.in_err-declarator.field-0.0 ≡ f) = search rules in
     err_gives_as _ _ _ _ _ same none

@@ -11,7 +11,9 @@ abbrev pub invariant-loop-turn : goal.invariant-loop-turn
 invariant-loop-turn l = record {
   low : l.height ≤ 2 * l.depth + 2 ^ 63;
   next_low : l.named.height ≤ 2 * l.depth + 2 ^ 63;
-  reads : init_declarators_from (declarator l.depth) (initialiser l.depth) l.fn.turns (named_of l.fn.first.tree) l.fn.first.height l.fn.tokens
+  reads : init_declarators_from (declarator l.depth) (initialiser l.depth) l.fn.turns
+      (named_of l.fn.first.tree) l.fn.first.height l.fn.tokens
       ≡ gathered l.found.trees (map declared_of l.found.declared) l.height
-      (init_declarators_from (declarator l.depth) (initialiser l.depth) (l.turns - l._turn) (named_of l.named.tree) l.named.height l.tokens);
+      (init_declarators_from (declarator l.depth) (initialiser l.depth) (l.turns - l._turn)
+      (named_of l.named.tree) l.named.height l.tokens);
 }

@@ -31,4 +31,5 @@ returns-clause-reads c =
     let some = rw (c.left-turns.ensures.all, c.in_ok-specs.ensures.ok.1) at c.init_declarators-found.ensures.reads in
     let test = c.are_objects-holds.ensures ∙ ap (λ l. are_objects (map declared_of l)) c.as_slice.ensures in
     kept_gives_as local_of (locals c.args.depth c.args.tokens.now) _ c.are_objects-holds.result _ _ c.kept.ensures.ok c.kept.ensures.err
-    (rw (c.as_local-local.ensures, c.finish.ensures, c.in_ok-specs.ensures.ok.0, c.in_ok-listed.ensures.ok.0) (local_read _ _ _ _ _ _ c.in_ok-list.ensures.reads first some _ test))
+    (rw (c.as_local-local.ensures, c.finish.ensures, c.in_ok-specs.ensures.ok.0, c.in_ok-listed.ensures.ok.0)
+    (local_read _ _ _ _ _ _ c.in_ok-list.ensures.reads first some _ test))

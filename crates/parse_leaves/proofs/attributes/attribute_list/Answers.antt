@@ -8,4 +8,5 @@ unfolding spec.attribute_list
 returns-clause-on c =
     let reads : GivesPart (spec.attribute_list c.args.tokens.now) c.attributes_within.result c.attributes_within.new.tokens =
     rw (c.in_ok-expect_left_paren.ensures, c.in_ok-expect_left_paren-2.ensures) c.attributes_within.ensures in
-    part_given (spec.attribute_list c.args.tokens.now) c.attributes_within.result c.args.tokens.now c.attributes_within.new.tokens reads (attribute_list_shorter c.args.tokens.now)
+    part_given (spec.attribute_list c.args.tokens.now) c.attributes_within.result c.args.tokens.now c.attributes_within.new.tokens reads
+    (attribute_list_shorter c.args.tokens.now)

@@ -9,4 +9,5 @@ of-requires c = merged_ascends _ _ c.in_ok-names.names.items c.in_ok-names.ensur
 
 pub returns : goal.returns
 returns c = IfOk-weaker c.of.result _ _
-    (λ s e. ap has e ∙ merged_is _ _ c.in_ok-names.names.items _ _ c.names-2.ensures.names c.names-3.ensures.names c.in_ok-names.ensures) c.of.ensures
+    (λ s e. ap has e ∙ merged_is _ _ c.in_ok-names.names.items _ _ c.names-2.ensures.names c.names-3.ensures.names c.in_ok-names.ensures)
+    c.of.ensures

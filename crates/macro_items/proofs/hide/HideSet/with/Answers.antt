@@ -8,7 +8,9 @@ use Rattle.macro_items.proofs.hide.HideSet.with.Goals.{In_ok-names-in-Err}
 use Rattle.macro_items.proofs.hide.HideSet.with.Goals as goal
 
 merges : (c : In_ok-names-in-Err) → names c.in_ok-names-in-Err.names.items ≡ merge (c.args.name.now ∷ []) (names c.names-names.result.now)
-merges c = inserted c.args.name.now c.names-names.result.now c.names-names.ensures.ascends c.args.name refl c.in_ok-names-in-Err.names.items c.in-Err.at c.in-Err.ensures.bound c.in-Err.ensures.position c.in_ok-names-in-Err.ensures
+merges c =
+    inserted c.args.name.now c.names-names.result.now c.names-names.ensures.ascends c.args.name refl c.in_ok-names-in-Err.names.items
+    c.in-Err.at c.in-Err.ensures.bound c.in-Err.ensures.position c.in_ok-names-in-Err.ensures
 
 pub of-requires : goal.of-requires
 of-requires c = merged_ascends (c.args.name ∷ []) _ c.in_ok-names-in-Err.names.items (merges c)
@@ -25,4 +27,5 @@ returns-in-Ok c =
 pub returns-in_ok-names-in-Err : goal.returns-in_ok-names-in-Err
 returns-in_ok-names-in-Err c =
     IfOk-weaker c.of.result _ _
-    (λ s e. ap has e ∙ merged_is (c.args.name ∷ []) _ c.in_ok-names-in-Err.names.items (c.args.name.now ∷ []) _ refl c.names-names.ensures.names (merges c.before)) c.of.ensures
+    (λ s e. ap has e ∙ merged_is (c.args.name ∷ []) _ c.in_ok-names-in-Err.names.items
+    (c.args.name.now ∷ []) _ refl c.names-names.ensures.names (merges c.before)) c.of.ensures

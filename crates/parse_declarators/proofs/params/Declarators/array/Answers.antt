@@ -9,6 +9,8 @@ returns-clause-reads g c =
     let depth = c.args.self.now.depth in
     let rest = c.bracketed-size.new.tokens in
     let both = c.in_ok-of.ensures.ok in
-    let size : bracketed (expression depth) c.args.tokens.now ≡ Some (found c.in_ok-of.size.tree c.in_ok-of.size.height rest) = rw both.1 at c.bracketed-size.ensures.reads in
-    let within = subst (λ r. GivesNamed (bounded (suc depth) r) c.within.result rest) (c.in_ok-found.ensures.reads c.args.tokens.now rest) (c.within.ensures.reads rest) in
+    let size : bracketed (expression depth) c.args.tokens.now
+    ≡ Some (found c.in_ok-of.size.tree c.in_ok-of.size.height rest) = rw both.1 at c.bracketed-size.ensures.reads in
+    let within = subst (λ r. GivesNamed (bounded (suc depth) r) c.within.result rest) (c.in_ok-found.ensures.reads c.args.tokens.now rest)
+    (c.within.ensures.reads rest) in
     rw size (rw both.0 at within)

@@ -8,5 +8,6 @@ invariant-loop-turn g l = record {
   on : length l.tokens ≤ length l.fn.tokens;
   low : l.height + length l.tokens ≤ l.self.depth + 1 + length l.fn.tokens;
   same : params_some (suc l.self.depth) (expression l.self.depth) (declarator l.self.depth) (length l.fn.tokens) l.fn.tokens
-      ≡ prepended l.trees l.height (params_some (suc l.self.depth) (expression l.self.depth) (declarator l.self.depth) (l.turns - l._turn) l.tokens);
+      ≡ prepended l.trees l.height (params_some (suc l.self.depth) (expression l.self.depth) (declarator l.self.depth)
+      (l.turns - l._turn) l.tokens);
 }

@@ -8,7 +8,8 @@ abbrev pub invariant-loop-suffix : goal.invariant-loop-suffix
 invariant-loop-suffix g l = record {
   on : length l.tokens ≤ length l.fn.tokens;
   low : l.left.height + length l.tokens ≤ max l.fn.first.height (l.self.depth + 1) + length l.fn.tokens;
-  same : suffixes (suc l.self.depth) (expression l.self.depth) (declarator l.self.depth) (length l.fn.tokens) l.start (as_read l.fn.first l.fn.tokens)
+  same : suffixes (suc l.self.depth) (expression l.self.depth) (declarator l.self.depth) (length l.fn.tokens) l.start
+      (as_read l.fn.first l.fn.tokens)
       ≡ suffixes (suc l.self.depth) (expression l.self.depth) (declarator l.self.depth) (length l.tokens) l.start (as_read l.left l.tokens);
 }
 

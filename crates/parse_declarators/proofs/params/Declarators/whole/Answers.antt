@@ -24,9 +24,11 @@ returns-clause-reads g c =
     let depth = c.args.self.now.depth in
     let rest = c.closed-inner.new.tokens in
     let both = c.in_ok-outer.ensures.ok in
-    let inner : closed (suc depth) (expression depth) (declarator depth) c.in_ok-openings.openings.inmost (as_read c.in_ok-openings.name c.take_openings.new.tokens) ≡ Some (as_read c.in_ok-outer.inner rest) =
+    let inner : closed (suc depth) (expression depth) (declarator depth) c.in_ok-openings.openings.inmost
+    (as_read c.in_ok-openings.name c.take_openings.new.tokens) ≡ Some (as_read c.in_ok-outer.inner rest) =
     rw both.1 at c.closed-inner.ensures.reads in
-    rw (inner_goes depth c.in_ok-openings.openings.outer (c.in_ok-openings.ensures.reads depth) (as_read c.in_ok-outer.inner rest) inner) (rw both.0 at c.around.ensures.reads)
+    rw (inner_goes depth c.in_ok-openings.openings.outer (c.in_ok-openings.ensures.reads depth) (as_read c.in_ok-outer.inner rest) inner)
+    (rw both.0 at c.around.ensures.reads)
 
 pub returns-clause-low : goal.returns-clause-low
 returns-clause-low g c =
@@ -35,7 +37,8 @@ returns-clause-low g c =
     let rest = c.closed-inner.new.tokens in
     let both = c.in_ok-outer.ensures.ok in
     let on : length rest ≤ length behind = rw both.1 at c.closed-inner.ensures.on in
-    let low : c.in_ok-outer.inner.height + length rest ≤ max c.in_ok-openings.name.height (depth + 1) + 1 + length behind = rw both.1 at c.closed-inner.ensures.low in
+    let low : c.in_ok-outer.inner.height + length rest ≤ max c.in_ok-openings.name.height
+    (depth + 1) + 1 + length behind = rw both.1 at c.closed-inner.ensures.low in
     low_behind (depth + 1) (max c.in_ok-outer.inner.height (depth + 1)) c.around.result c.args.tokens.now rest c.around.new.tokens
     (omega (arith, on, low, c.in_ok-openings.ensures.low, c.in_ok-openings.ensures.on)) c.around.ensures.low
 

@@ -21,7 +21,8 @@ returns-then-not-take_comma-clause-reads g c =
     let other = c.if-not-take_comma.ensures.other refl in
     let higher = c.max-height.ensures ∙ highest c.loop-turn.height c.in_ok-one.one.height in
     rw (c.finish.ensures, c.in_ok-push.ensures.ok, higher, other.1)
-    (e ∙ exprs_end n (spec.expression n) c.loop-turn.trees c.loop-turn.height _ c.loop-turn.tokens c.expression.new.tokens _ _ c.in_ok-one.ensures.reads other.0)
+    (e ∙ exprs_end n (spec.expression n) c.loop-turn.trees c.loop-turn.height _ c.loop-turn.tokens c.expression.new.tokens _ _
+    c.in_ok-one.ensures.reads other.0)
 
 pub loop-turn-preserved : goal.loop-turn-preserved
 loop-turn-preserved g c =
@@ -33,11 +34,13 @@ loop-turn-preserved g c =
     let low = c.in_ok-one.ensures.low in (
       omega (arith, higher, low, c.loop-turn.invariant.0),
       rw (c.in_ok-push.ensures.ok, higher)
-          (e ∙ exprs_go n (spec.expression n) c.loop-turn.trees c.loop-turn.height _ c.loop-turn.tokens c.expression.new.tokens c.take_comma.new.self _ _ c.in_ok-one.ensures.reads comma),
+          (e ∙ exprs_go n (spec.expression n) c.loop-turn.trees c.loop-turn.height _ c.loop-turn.tokens c.expression.new.tokens
+          c.take_comma.new.self _ _ c.in_ok-one.ensures.reads comma),
     )
 
 pub returns-clause-reads : goal.returns-clause-reads
 returns-clause-reads g c _ =
     let n = c.args.self.now.grammar.depth in
     let read = λ (m : ℕ). spec.prepended c.loop-turn.trees c.loop-turn.height (spec.exprs n (spec.expression n) m c.loop-turn.tokens) in
-    no_more read c.args.turns c.loop-turn._turn c.loop-turn-test.false c.loop-turn.invariant.1 ∙ exprs_over n (spec.expression n) c.loop-turn.trees c.loop-turn.height c.loop-turn.tokens
+    no_more read c.args.turns c.loop-turn._turn c.loop-turn-test.false c.loop-turn.invariant.1
+    ∙ exprs_over n (spec.expression n) c.loop-turn.trees c.loop-turn.height c.loop-turn.tokens

@@ -7,5 +7,6 @@ unfolding spec.begun
 returns-in_err-first-clause-reads g c =
     let n = c.args.self.now.grammar.depth in
     let sub = spec.expression n in
-    let fails : spec.prefix n sub c.args.tokens.now ≡ None → spec.level_up_to n sub c.args.level c.args.tokens.now ≡ None = λ f. rw f refl in
+    let fails : spec.prefix n sub c.args.tokens.now ≡ None
+    → spec.level_up_to n sub c.args.level c.args.tokens.now ≡ None = λ f. rw f refl in
     search rules

@@ -7,7 +7,8 @@ use Rattle.parse_expressions.proofs.terms.Terms.prefix.Given as goal
 abbrev pub invariant-loop-starts : goal.invariant-loop-starts
 invariant-loop-starts g l =
     spec.prefix l.self.grammar.depth (spec.expression l.self.grammar.depth) l.fn.tokens
-    ≡ within_groups l.self.grammar.depth (spec.expression l.self.grammar.depth) l.starts.items (spec.prefix l.self.grammar.depth (spec.expression l.self.grammar.depth) l.tokens)
+    ≡ within_groups l.self.grammar.depth (spec.expression l.self.grammar.depth) l.starts.items
+    (spec.prefix l.self.grammar.depth (spec.expression l.self.grammar.depth) l.tokens)
 
 abbrev pub decreases-loop-starts : goal.decreases-loop-starts
 decreases-loop-starts g l = length l.tokens

@@ -9,7 +9,8 @@ use Rattle.parse_statements.proofs.Braced.{cases_begun, cases_none}
 use Rattle.parse_statements.proofs.statements.Statements.cases.Goals as goal
 
 pub returns-then-not-begins_cases-clause-reads : goal.returns-then-not-begins_cases-clause-reads
-returns-then-not-begins_cases-clause-reads g c _ = cases_none c.args.self.now.depth c.args.tokens.now (sym c.begins_cases.ensures ∙ c.if-not-begins_cases.true)
+returns-then-not-begins_cases-clause-reads g c _ =
+    cases_none c.args.self.now.depth c.args.tokens.now (sym c.begins_cases.ensures ∙ c.if-not-begins_cases.true)
 
 pub returns-clause-reads : goal.returns-clause-reads
 returns-clause-reads g c =

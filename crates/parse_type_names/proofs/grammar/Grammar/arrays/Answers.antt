@@ -14,7 +14,8 @@ returns-then-not-take_left_bracket-clause-reads g c =
     let other = c.if-not-take_left_bracket.ensures.other refl in
     rw other.1
     (c.loop-turn.invariant.reads
-    ∙ arrays_end (spec.expression c.args.self.now.depth) (suc c.args.self.now.depth) c.args.place (place_of c.args.tokens.now) whole.tree whole.height c.loop-turn.tokens _ other.0)
+    ∙ arrays_end (spec.expression c.args.self.now.depth) (suc c.args.self.now.depth) c.args.place
+    (place_of c.args.tokens.now) whole.tree whole.height c.loop-turn.tokens _ other.0)
 
 pub returns-in_err-whole-clause-reads : goal.returns-in_err-whole-clause-reads
 returns-in_err-whole-clause-reads g c =
@@ -29,7 +30,8 @@ returns-in_err-whole-clause-reads g c =
     let taken = c.if-not-take_left_bracket.ensures.taken refl in
     let fails : with_bound sub limit c.place-start.result whole.tree whole.height c.take_left_bracket.new.self ≡ None
     → spec.arrays sub limit c.args.place all start (spec.found (d.Omitted c.args.place) 1 c.args.tokens.now) ≡ None =
-    λ f. e ∙ arrays_fail sub limit c.args.place start whole.tree whole.height c.loop-turn.tokens _ c.take_left_bracket.new.self taken (rw c.place-start.ensures at f) in
+    λ f. e ∙ arrays_fail sub limit c.args.place start whole.tree whole.height c.loop-turn.tokens _ c.take_left_bracket.new.self taken
+    (rw c.place-start.ensures at f) in
     search rules
 
 pub loop-turn-preserved : goal.loop-turn-preserved
@@ -47,7 +49,9 @@ loop-turn-preserved g c =
     record {
       low = c.in_ok-whole.ensures.low;
       on = omega (arith, shorter, on, c.loop-turn.invariant.on);
-      reads = e ∙ arrays_go sub limit c.args.place start whole.tree whole.height c.loop-turn.tokens _ c.take_left_bracket.new.self _ taken (rw c.place-start.ensures at c.in_ok-whole.ensures.reads);
+      reads =
+          e ∙ arrays_go sub limit c.args.place start whole.tree whole.height c.loop-turn.tokens _ c.take_left_bracket.new.self _ taken
+          (rw c.place-start.ensures at c.in_ok-whole.ensures.reads);
     }
 
 pub returns-clause-reads : goal.returns-clause-reads

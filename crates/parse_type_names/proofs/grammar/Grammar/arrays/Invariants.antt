@@ -8,6 +8,8 @@ abbrev pub invariant-loop-turn : goal.invariant-loop-turn
 invariant-loop-turn g l = record {
   low : l.whole.height ≤ l.self.depth + 1;
   on : length l.tokens ≤ length l.fn.tokens;
-  reads : spec.arrays (spec.expression l.self.depth) (suc l.self.depth) l.fn.place (length l.fn.tokens) (place_of l.fn.tokens) (spec.found (d.Omitted l.fn.place) 1 l.fn.tokens)
-      ≡ spec.arrays (spec.expression l.self.depth) (suc l.self.depth) l.fn.place (length l.fn.tokens - l._turn) (place_of l.fn.tokens) (spec.found l.whole.tree l.whole.height l.tokens);
+  reads : spec.arrays (spec.expression l.self.depth) (suc l.self.depth) l.fn.place (length l.fn.tokens) (place_of l.fn.tokens)
+      (spec.found (d.Omitted l.fn.place) 1 l.fn.tokens)
+      ≡ spec.arrays (spec.expression l.self.depth) (suc l.self.depth) l.fn.place (length l.fn.tokens - l._turn) (place_of l.fn.tokens)
+      (spec.found l.whole.tree l.whole.height l.tokens);
 }
