@@ -37,7 +37,7 @@ fn outcome_of_input(
     Ok(outcome)
 }
 
-/// The same with an input.
+/// What the words come to over an input that nothing is to take from.
 fn outcome_of_words(
     rt: &impl Abort,
     alloc: Global,
@@ -49,7 +49,7 @@ fn outcome_of_words(
     outcome_of_input(rt, alloc, words, store, &mut input, err)
 }
 
-/// The same of a list of words.
+/// What the words of this list come to.
 fn outcome_of(
     rt: &impl Abort,
     alloc: Global,
@@ -93,7 +93,7 @@ fn assert_answer(
     Ok(())
 }
 
-/// The same with an err of that room.
+/// Asserts the answer of `run a.c a.img` over the store and an err of that room.
 fn assert_run(
     rt: &impl Abort,
     alloc: Global,
@@ -105,7 +105,7 @@ fn assert_run(
     assert_answer(rt, alloc, store, &mut err, answer)
 }
 
-/// The same where the store holds the source.
+/// Asserts the answer of `run a.c a.img` where a.c holds the source.
 fn assert_run_of(
     rt: &impl Abort,
     alloc: Global,
@@ -118,7 +118,7 @@ fn assert_run_of(
     assert_run(rt, alloc, store, room, answer)
 }
 
-/// The same on a fresh store.
+/// Asserts the answer of `run a.c a.img` on a fresh store, of which a.c holds the source.
 fn assert_source(
     rt: &impl Abort,
     alloc: Global,
@@ -130,7 +130,7 @@ fn assert_source(
     assert_run_of(rt, alloc, &mut store, source, room, answer)
 }
 
-/// The same of the form with these numbers.
+/// Asserts the answer of `run a.c a.img` for the form with these numbers.
 fn assert_form(
     rt: &impl Abort,
     alloc: Global,

@@ -122,7 +122,7 @@ fn assert_files<R: Abort + Files, F: Files>(
     Ok(())
 }
 
-/// The same on a fresh store, of a name in the folder that has the number.
+/// Keeps files on a fresh store under the name in the folder that has the number, and asks for them once they are removed.
 fn assert_folder<R: Abort + Files>(
     rt: &R,
     alloc: Global,

@@ -1,5 +1,7 @@
 -- The image of a form is an image, and does what the form means.
-use Rattle.std.proofs.Common.{◌≡◌, ℕ, zero, suc, ◌+◌, ◌%◌, ◌<◌, ◌≤◌, ◌^◌, List, [], ◌∷◌, length, Bool, true, false, ◌||◌, nat_lt, max, cond, Option, None, Some, IsTrue, inl, inr, refl, sym, ◌∙◌, ap, subst, arith, replicate, lit≤, lit<, zero-add, ◌-◌, Ok, Err, if◌then◌else◌}
+use Rattle.std.proofs.Common.{◌≡◌, ℕ, zero, suc, ◌+◌, ◌%◌, ◌<◌, ◌≤◌, ◌^◌, List, [], ◌∷◌, length, Bool, true, false, ◌||◌, nat_lt, max}
+use Rattle.std.proofs.Common.{cond, Option, None, Some, IsTrue, inl, inr, refl, sym, ◌∙◌, ap, subst, arith, replicate, lit≤, lit<}
+use Rattle.std.proofs.Common.{zero-add, ◌-◌, Ok, Err, if◌then◌else◌}
 use Rattle.std.specs.List.{list_all}
 use Rattle.std.proofs.lemmas.List.{length-replicate}
 use Rattle.std.proofs.lemmas.Bool.{lt-ltb, le-ltb, le-leb, ltb-false, cases_lt, and_from, and_parts, or_right}
@@ -13,7 +15,8 @@ use Rattle.fc_base.specs.declared.levels.Level.TheVariants as levels
 use Rattle.fc_base.specs.declared.levels.Mode.TheVariants as modes
 use Rattle.bm_image.specs.Images.{IsImage, IsFunction, function_at, end_of, bounds_of, fits, ends_function, memset_chk, instruction_or}
 use Rattle.bm_heap.specs.Heaps.{whole_heap}
-use Rattle.byte_machine.specs.State.{Core, State, Program, stack_start, stack_frames, ending, overflowing, answered, next, after, standing_of}
+use Rattle.byte_machine.specs.State.{Core, State, Program, stack_start, stack_frames, ending, overflowing, answered, next, after}
+use Rattle.byte_machine.specs.State.{standing_of}
 use Rattle.library_meaning.specs.Memory.{memory_size, are_valid, put}
 use Rattle.library_meaning.specs.Rows.{Behind, answer}
 use Rattle.library_meaning.specs.OnBytes.{valid_then}
@@ -30,7 +33,8 @@ use Rattle.fort_driver.specs.Forms.{form_events, form_end, form_meaning, form_we
 use Rattle.fort_driver.specs.Compiled.{form_code, form_function, form_image}
 
 -- a test of each instruction holds at each place
-tested_at : (p : Instr → Bool) (code : List Instr) → list_all p code ≡ true → (i : ℕ) (d : Instr) → i < length code → p (instruction_or d code i) ≡ true
+tested_at : (p : Instr → Bool) (code : List Instr) → list_all p code ≡ true → (i : ℕ) (d : Instr) → i < length code
+    → p (instruction_or d code i) ≡ true
 tested_at p [] all i d below = absurd (omega arith)
 tested_at p (x ∷ code) all zero d below = (and_parts _ _ all).0
 tested_at p (x ∷ code) all (suc i) d below = tested_at p code (and_parts _ _ all).1 i d (omega arith)
@@ -93,7 +97,8 @@ stored_by form memory slots input false true = refl
 stored_by form memory slots input false false = refl
 
 -- the call, by its two tests
-at_call : (form : Form) (memory slots : List ℕ) (input : Input) (exceeds valid : Bool) → nat_lt form.size form.count ≡ exceeds → are_valid stack_start form.count ≡ valid
+at_call : (form : Form) (memory slots : List ℕ) (input : Input) (exceeds valid : Bool) → nat_lt form.size form.count ≡ exceeds
+    → are_valid stack_start form.count ≡ valid
     → after (form_program form) 9 (begun (fresh memory slots) input)
     ≡ cond exceeds (overflowing (begun (standing memory 8 (given form []) (given form slots)) input))
     (cond valid (begun (standing (array_set form memory) 9 (given form []) (given form slots)) input)
@@ -111,13 +116,15 @@ at_call form memory slots input exceeds valid first second =
 -- two more return the result
 returns : (form : Form) (memory slots : List ℕ) (input : Input)
     → next (form_program form) (next (form_program form) (begun (standing memory 9 (given form []) slots) input))
-    ≡ begun (ending (ends.Exit (form.result % 256)) (standing memory 10 (form.result ∷ form.byte ∷ form.count ∷ form.size ∷ []) slots)) input
+    ≡ begun
+    (ending (ends.Exit (form.result % 256)) (standing memory 10 (form.result ∷ form.byte ∷ form.count ∷ form.size ∷ []) slots)) input
 unfolding next
 returns form memory slots input = refl
 
 -- the array's bytes may be touched
 may_be_set : (count : ℕ) → count ≤ 4096 → are_valid stack_start count ≡ true
-may_be_set count few = let room : stack_start + count ≤ memory_size = omega arith in or_right _ _ (le-leb (stack_start + count) memory_size room)
+may_be_set count few =
+    let room : stack_start + count ≤ memory_size = omega arith in or_right _ _ (le-leb (stack_start + count) memory_size room)
 
 -- the stack has room for main, so the run begins
 let_in : (form : Form) → IsForm form → first_end (form_function form) ≡ None
@@ -137,10 +144,12 @@ stands s = (s.world.shown, standing_of s.core.stopped)
 abbrev pub form_shows : Form → Shown × Standing
 form_shows form = source_shown levels.Three false (form_events form) (form_end form)
 
--- the same by whether the call exceeds
+-- what a form shows, by whether the call exceeds
 abbrev by_test : Form → Bool → Shown × Standing
 by_test form exceeds =
-    source_shown levels.Three false (Asked form.call modes.M0 form.size (Some form.size) true false ∷ Check form.call form.size exceeds ∷ []) (Ended (ends.Exit form.result))
+    source_shown levels.Three false
+    (Asked form.call modes.M0 form.size (Some form.size) true false ∷ Check form.call form.size exceeds ∷ [])
+    (Ended (ends.Exit form.result))
 
 -- within eleven instructions from this state on the machine has shown what the form shows, and stands so
 abbrev pub MeetsFrom : Form → State → Type 0
@@ -150,7 +159,12 @@ fresh_meets : (form : Form) → IsForm form → (memory slots : List ℕ) (input
 unfolding after
 fresh_meets form ok memory slots input = go (nat_lt form.size form.count) refl where
   go : (t : Bool) → nat_lt form.size form.count ≡ t → MeetsFrom form (begun (fresh memory slots) input)
-  go true test = (9, lit≤ tt, ap stands (at_call form memory slots input true (are_valid stack_start form.count) test refl) ∙ ap (by_test form) (sym test))
+  go true test = (
+    9,
+    lit≤ tt,
+    ap stands (at_call form memory slots input true (are_valid stack_start form.count) test refl)
+        ∙ ap (by_test form) (sym test),
+  )
   go false test =
       let within : form.count ≤ form.size = ltb-false _ _ test in
       let low : form.result % 256 ≡ form.result = omega arith in
@@ -158,7 +172,8 @@ fresh_meets form ok memory slots input = go (nat_lt form.size form.count) refl w
         11,
         lit≤ tt,
         ap (λ s. stands (next (form_program form) (next (form_program form) s))) set
-            ∙ (ap stands (returns form (array_set form memory) (given form slots) input) ∙ (ap (λ r. ([], Ended (ends.Exit r))) low ∙ ap (by_test form) (sym test))),
+            ∙ (ap stands (returns form (array_set form memory) (given form slots) input)
+            ∙ (ap (λ r. ([], Ended (ends.Exit r))) low ∙ ap (by_test form) (sym test))),
       )
 
 -- the machine of the form's image as it is opened, and its run
@@ -167,7 +182,8 @@ form_begun form args input = begun (first_core (form_image form) args) input
 
 pub meets : (form : Form) → IsForm form → (args : List (List ℕ)) (input : Input) → MeetsFrom form (form_begun form args input)
 meets form ok args input =
-    subst (λ core. MeetsFrom form (begun core input)) (sym (opened form args ok)) (fresh_meets form ok (first_memory (form_image form) args) (replicate 60 0) input)
+    subst (λ core. MeetsFrom form (begun core input)) (sym (opened form args ok))
+    (fresh_meets form ok (first_memory (form_image form) args) (replicate 60 0) input)
 
 -- a form ends
 form_ends : (form : Form) → (end : End) × ((form_shows form).1 ≡ Ended end)
@@ -190,7 +206,12 @@ shaped form ok = record {
   records = ap (λ frame. as_function frame ∷ []) (sym (frame_as_counted form ok));
   entry = refl;
   small = λ k below. let e : 0 ≡ k = omega arith in
-      subst (λ k. end_of (form_function form ∷ []) 11 k ≤ (function_at (form_function form ∷ []) k).first + (function_at (form_function form ∷ []) k).weight) e (lit≤ tt);
+      subst
+      (λ k. end_of
+      (form_function form ∷ []) 11
+      k ≤ (function_at (form_function form ∷ []) k).first + (function_at (form_function form ∷ []) k).weight)
+      e
+      (lit≤ tt);
 }
 
 -- the image does what the form means
@@ -228,11 +249,14 @@ image_ok form ok = record {
     inside = λ k below. at_first k below (λ k. (function_at (form_function form ∷ []) k).first < 11) (lit< tt);
     bounds = λ k below. at_first k below (λ k. IsFunction (function_at (form_function form ∷ []) k)) bounded;
     fit = λ k i d below behind before.
-        at_first k below (λ k. i < end_of (form_function form ∷ []) 11 k → IsTrue (fits (bounds_of (form_function form ∷ []) 11 k) (instruction_or d (form_code form) i)))
+        at_first k below
+        (λ k. i < end_of (form_function form ∷ []) 11 k
+        → IsTrue (fits (bounds_of (form_function form ∷ []) 11 k) (instruction_or d (form_code form) i)))
         (tested_at (fits (bounds_of (form_function form ∷ []) 11 0)) (form_code form) all_fit i d) before;
     last = λ k i d below behind at_end.
         at_first k below (λ k. i + 1 ≡ end_of (form_function form ∷ []) 11 k → IsTrue (ends_function (instruction_or d (form_code form) i)))
-        (λ end. let here : 10 ≡ i = omega arith in subst (λ i. IsTrue (ends_function (instruction_or d (form_code form) i))) here refl) at_end;
+        (λ end. let here : 10 ≡ i = omega arith in subst (λ i. IsTrue (ends_function (instruction_or d (form_code form) i))) here refl)
+        at_end;
   };
 } where
   at_first : (k : ℕ) → k < 1 → (P : ℕ → Type 0) → P 0 → P k
@@ -290,7 +314,8 @@ ends_within form ok args input end is =
     (run.0, run.1, stopped_of _ end (ap (λ r. r.1) run.2 ∙ is), ap (λ r. r.0) run.2)
 
 -- so it has at each bound from eleven on
-pub ended_by : (form : Form) → IsForm form → (args : List (List ℕ)) (input : Input) (end : End) → (form_shows form).1 ≡ Ended end → (k : ℕ) → 11 ≤ k
+pub ended_by : (form : Form) → IsForm form → (args : List (List ℕ)) (input : Input) (end : End) → (form_shows form).1 ≡ Ended end
+    → (k : ℕ) → 11 ≤ k
     → (after (form_program form) k (form_begun form args input)).core.stopped ≡ Some end
 ended_by form ok args input end is k enough =
     let run = ends_within form ok args input end is in

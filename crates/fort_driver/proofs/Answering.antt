@@ -1,5 +1,6 @@
 -- The one answer of `run`, by the bytes under FILE.
-use Rattle.std.proofs.Common.{◌≡◌, ℕ, ◌≤◌, ◌<◌, List, length, false, Option, Some, Result, Ok, Err, refl, sym, ◌∙◌, ap, subst, inl, inr, arith}
+use Rattle.std.proofs.Common.{◌≡◌, ℕ, ◌≤◌, ◌<◌, List, length, false, Option, Some, Result, Ok, Err, refl, sym, ◌∙◌, ap, subst, inl, inr}
+use Rattle.std.proofs.Common.{arith}
 use Rattle.fc_base.specs.Outside.{Files}
 use Rattle.fc_base.specs.declared.levels.End.{End}
 use Rattle.fc_base.specs.declared.levels.Level.TheVariants.{Three}
@@ -20,25 +21,32 @@ use Rattle.fort_words.specs.declared.Outcome.TheVariants as outcomes
 use Rattle.fort_words.specs.Commands.{Command, level_of, sizes_of, steps_of, args_of, fetched_of, longest_of}
 use Rattle.fort_driver.specs.Compiled.{form_image}
 use Rattle.fort_driver.specs.Forms.{form_meaning}
-use Rattle.fort_driver.specs.Fort.{Holds, CompilesFor, ComesTo, OfMachine, OfCompiling, OfQuietRun, NotCompiled, KeepsCounts, StoodStill, EndsWithin, RunAnswers, RunPromise, fault_outcome}
+use Rattle.fort_driver.specs.Fort.{Holds, CompilesFor, ComesTo, OfMachine, OfCompiling, OfQuietRun, NotCompiled, KeepsCounts, StoodStill}
+use Rattle.fort_driver.specs.Fort.{EndsWithin, RunAnswers, RunPromise, fault_outcome}
 use Rattle.fort_driver.specs.Agreeing.{source_runs, end_bound, weight_of}
 use Rattle.fort_driver.specs.Preparing.{IsReady}
 use Rattle.fort_driver.proofs.Agreement.{ended_by, shown_then, form_shows}
 
 -- what is told is what was fetched
-pub same_source : (files : Option Files) (f : Files) (file source fetched : List ℕ) → files ≡ Some f → f file ≡ Some source → Holds files file fetched → fetched ≡ source
+pub same_source : (files : Option Files) (f : Files) (file source fetched : List ℕ) → files ≡ Some f → f file ≡ Some source
+    → Holds files file fetched → fetched ≡ source
 same_source files f file source fetched told here holds =
     let there : Holds (Some f) file fetched = subst (λ x. Holds x file fetched) told holds in
     cc (there, here)
 
 -- the outcomes of one source
-one_refusal : (command : Command) (source : List ℕ) (a b : Refusal) → CompilesFor command source (Err a) → CompilesFor command source (Err b) → a ≡ b
-one_refusal command source a b first second = let same : ◌≡◌ {A = Result Form Refusal} (Err a) (Err b) = one (level_of command) source first second in cc
+one_refusal : (command : Command) (source : List ℕ) (a b : Refusal) → CompilesFor command source (Err a)
+    → CompilesFor command source (Err b) → a ≡ b
+one_refusal command source a b first second =
+    let same : ◌≡◌ {A = Result Form Refusal} (Err a) (Err b) = one (level_of command) source first second in cc
 
-one_form : (command : Command) (source : List ℕ) (a b : Form) → CompilesFor command source (Ok a) → CompilesFor command source (Ok b) → a ≡ b
-one_form command source a b first second = let same : ◌≡◌ {A = Result Form Refusal} (Ok a) (Ok b) = one (level_of command) source first second in cc
+one_form : (command : Command) (source : List ℕ) (a b : Form) → CompilesFor command source (Ok a) → CompilesFor command source (Ok b)
+    → a ≡ b
+one_form command source a b first second =
+    let same : ◌≡◌ {A = Result Form Refusal} (Ok a) (Ok b) = one (level_of command) source first second in cc
 
-not_both : (command : Command) (source : List ℕ) (form : Form) (refusal : Refusal) → CompilesFor command source (Ok form) → CompilesFor command source (Err refusal) → ⊥
+not_both : (command : Command) (source : List ℕ) (form : Form) (refusal : Refusal) → CompilesFor command source (Ok form)
+    → CompilesFor command source (Err refusal) → ⊥
 not_both command source form refusal read broken =
     let same : ◌≡◌ {A = Result Form Refusal} (Ok form) (Err refusal) = one (level_of command) source read broken in absurd (cc)
 
@@ -92,7 +100,8 @@ not_compiled_answers _ command source old new x y f left told here still = absur
 -- ---- of a run
 
 -- an outcome of a run is one
-pub of_machine : (outcome : Outcome) (bound : ℕ) (program : Program) (core : Core) (x y : Streams) → ComesTo outcome bound program core x y → OfMachine outcome
+pub of_machine : (outcome : Outcome) (bound : ℕ) (program : Program) (core : Core) (x y : Streams)
+    → ComesTo outcome bound program core x y → OfMachine outcome
 of_machine (outcomes.Ran end) bound program core x y runs = tt
 of_machine outcomes.OutOfSteps bound program core x y runs = tt
 of_machine outcomes.InputFault bound program core x y runs = tt
@@ -113,7 +122,8 @@ quiet outcomes.ErrFault x y of fails none = absurd (none OfErr (fails OfErr refl
 quiet _ x y of fails none = absurd of
 
 -- a command at level 3 without sizes, for whose source the form ends so
-ends_so : (command : Command) (form : Form) (n : ℕ) (end : End) (x : Streams) → level_of command ≡ Three → sizes_of command ≡ false → EndsWithin command form n end x
+ends_so : (command : Command) (form : Form) (n : ℕ) (end : End) (x : Streams) → level_of command ≡ Three → sizes_of command ≡ false
+    → EndsWithin command form n end x
     → (input : Input) → Offers x input → (form_shows form).1 ≡ Ended end
 ends_so command form n end x level sizes is input offered =
     subst (λ t. (source_runs (form_meaning form) Three t (args_of command) input n).1 ≡ Ended end) sizes
@@ -126,7 +136,8 @@ room form n bound enough = omega arith
 -- the form's run comes to its end where no stream fails
 run_ends : (outcome : Outcome) (args : List (List ℕ)) (bound : ℕ) (form : Form) (end : End) (x y : Streams) → IsForm form
     → ((input : Input) → Offers x input → (form_shows form).1 ≡ Ended end) → 11 ≤ bound
-    → ComesTo outcome bound (program_of (form_image form)) (first_core (form_image form) args) x y → FailsBy outcome x y → NoneFailed x y → outcome ≡ outcomes.Ran end
+    → ComesTo outcome bound (program_of (form_image form)) (first_core (form_image form) args) x y → FailsBy outcome x y → NoneFailed x y
+    → outcome ≡ outcomes.Ran end
 run_ends (outcomes.Ran other) args bound form end x y ok is enough runs fails none =
     let advances = runs.4 in
     let stopped = ap (λ k. k.stopped) advances.state ∙ runs.3 in
@@ -144,7 +155,8 @@ run_ends outcomes.ErrFault args bound form end x y ok is enough runs fails none 
 run_ends _ args bound form end x y ok is enough runs fails none = absurd runs
 
 -- the outcomes of a run
-ready_answers : (outcome : Outcome) (command : Command) (source : List ℕ) (old new : StoreState) (x y : Streams) (f : Files) (machine : Loaded)
+ready_answers : (outcome : Outcome) (command : Command) (source : List ℕ) (old new : StoreState) (x y : Streams) (f : Files)
+    (machine : Loaded)
     → IsReady command old new machine → ComesTo outcome (steps_of command) machine.program machine.core x y → FailsBy outcome x y
     → old.files ≡ Some f → f (fetched_of command) ≡ Some source → RunAnswers command outcome (outside old x) (outside new y) source
 ready_answers outcome command source old new x y f machine ready runs fails told here =
@@ -161,11 +173,14 @@ ready_answers outcome command source old new x y f machine ready runs fails told
     record {
       too_long = λ long. absurd (omega arith);
       refused = λ refusal _ broken. absurd (not_both command source form refusal read broken);
-      accepted = λ _ _ _ all. quiet outcome x y (of_machine outcome (steps_of command) machine.program machine.core x y runs) fails all.streams;
+      accepted =
+          λ _ _ _ all. quiet outcome x y (of_machine outcome (steps_of command) machine.program machine.core x y runs) fails all.streams;
       ended = λ other n end _ compiles all is enough.
           let one = one_form command source other form compiles read in
           let mine : EndsWithin command form n end x = subst (λ o. EndsWithin command o n end x) one is in
-          inl (run_ends outcome args (steps_of command) form end x y (form_is read) (ends_so command form n end x ready.level ready.sizes mine)
+          inl
+          (run_ends outcome args (steps_of command) form end x y (form_is read)
+          (ends_so command form n end x ready.level ready.sizes mine)
           (room other n (steps_of command) enough) form_run fails all.streams);
     }
 
@@ -192,14 +207,17 @@ no_fault outcome of OfInput is = subst OfCompiling is of
 no_fault outcome of OfOut is = subst OfCompiling is of
 no_fault outcome of OfErr is = subst OfCompiling is of
 
-counts_as : {P Q : Type 0} (command : Command) (old new : StoreState) → (P → Q) → KeepsCounts command old new P → KeepsCounts command old new Q
+counts_as : {P Q : Type 0} (command : Command) (old new : StoreState) → (P → Q) → KeepsCounts command old new P
+    → KeepsCounts command old new Q
 counts_as command old new through counts = record {
   fetch_of = counts.fetch_of;
   keep_of = counts.keep_of;
   no_failure = λ none. counts.no_failure (λ failed. none (through failed));
 }
 
-pub ready_promise : {P : Type 0} (outcome : Outcome) (command : Command) (old new : StoreState) (x y : Streams) (machine : Loaded) (bound : ℕ) → bound ≡ steps_of command
+pub ready_promise : {P : Type 0} (outcome : Outcome) (command : Command) (old new : StoreState) (x y : Streams) (machine : Loaded)
+    (bound : ℕ)
+    → bound ≡ steps_of command
     → IsReady command old new machine → ComesTo outcome bound machine.program machine.core x y → FailsBy outcome x y
     → KeepsCounts command old new P → (P → ⊥) → RunPromise command outcome (outside old x) (outside new y)
 ready_promise outcome command old new x y machine bound is_bound ready ran fails counts none =
@@ -216,7 +234,8 @@ ready_promise outcome command old new x y machine bound is_bound ready ran fails
       answers = λ source f told here still. ready_answers outcome command source old new x y f machine ready runs fails told here;
     }
 
-pub not_ready_promise : {P : Type 0} (outcome : Outcome) (command : Command) (old new : StoreState) (x : Streams) → NotCompiled command outcome old new
+pub not_ready_promise : {P : Type 0} (outcome : Outcome) (command : Command) (old new : StoreState) (x : Streams)
+    → NotCompiled command outcome old new
     → KeepsCounts command old new P → (P → outcome ≡ outcomes.StoreFault) → RunPromise command outcome (outside old x) (outside new x)
 not_ready_promise outcome command old new x left counts through =
     let of = of_compiling outcome command old new left in

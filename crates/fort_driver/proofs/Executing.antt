@@ -22,7 +22,8 @@ use Rattle.fort_words.specs.declared.Outcome.{Outcome}
 use Rattle.fort_words.specs.declared.Outcome.TheVariants as outcomes
 use Rattle.fort_words.specs.Commands.{Command, steps_of, args_of, fetched_of, longest_of}
 use Rattle.fort_words.specs.Outcomes.{after_fetch, after_read}
-use Rattle.fort_driver.specs.Fort.{IsFetched, ComesTo, OfMachine, OfOpening, NotOpened, OnlyFetches, StoodStill, StandsAtBound, ExecAnswers, ExecPromise, outcome_at, fault_outcome}
+use Rattle.fort_driver.specs.Fort.{IsFetched, ComesTo, OfMachine, OfOpening, NotOpened, OnlyFetches, StoodStill, StandsAtBound}
+use Rattle.fort_driver.specs.Fort.{ExecAnswers, ExecPromise, outcome_at, fault_outcome}
 use Rattle.fort_driver.specs.Preparing.{IsLoaded}
 use Rattle.fort_driver.proofs.Agreement.{stays}
 use Rattle.fort_driver.proofs.Answering.{same_source, of_machine, quiet, FailsBy}
@@ -57,7 +58,8 @@ fetch_refused fetch.Failed command old new long rose = rose refl
 fetch_refused fetch.TooLong command old new long rose = long_source (longest_of command) old.files (fetched_of command) (long refl)
 fetch_refused fetch.NoMemory command old new long rose = tt
 
-pub read_refused : (fault : ReadFault) (command : Command) (old new : StoreState) (bytes read_bytes : List ℕ) → IsFetched command old bytes → read_bytes ≡ bytes
+pub read_refused : (fault : ReadFault) (command : Command) (old new : StoreState) (bytes read_bytes : List ℕ)
+    → IsFetched command old bytes → read_bytes ≡ bytes
     → ((found : ImageFault) → fault ≡ read.Refused found → Judges read_bytes (image_parts read_bytes) (Some found))
     → ((found : ImageFault) → fault ≡ read.Refused found → (image : PlainImage) → SpellsImage read_bytes image → ⊥)
     → NotOpened command (after_read fault) old new
@@ -130,7 +132,8 @@ comes_to_standing outcomes.OutFault command image standing x y runs fails none i
 comes_to_standing outcomes.ErrFault command image standing x y runs fails none is = absurd (quiet outcomes.ErrFault x y tt fails none)
 comes_to_standing _ command image standing x y runs fails none is = absurd runs
 
-loaded_answers : (outcome : Outcome) (command : Command) (bytes : List ℕ) (old new : StoreState) (x y : Streams) (f : Files) (machine : Loaded)
+loaded_answers : (outcome : Outcome) (command : Command) (bytes : List ℕ) (old new : StoreState) (x y : Streams) (f : Files)
+    (machine : Loaded)
     → (loaded : IsLoaded command old machine)
     → ComesTo outcome (steps_of command) (program_of loaded.image) (first_core loaded.image (args_of command)) x y → FailsBy outcome x y
     → old.files ≡ Some f → f (fetched_of command) ≡ Some bytes → ExecAnswers command outcome (outside old x) (outside new y) bytes
@@ -144,10 +147,14 @@ loaded_answers outcome command bytes old new x y f machine loaded runs fails tol
       too_long = λ long. absurd (omega arith);
       refused = λ fault _ judged. absurd (none_spelled bytes fault judged image spelled);
       none = λ _ none. absurd (none image spelled);
-      runs = λ _ _ _ all. quiet outcome x y (of_machine outcome (steps_of command) (program_of image) (first_core image (args_of command)) x y runs) fails all;
+      runs =
+          λ _ _ _ all. quiet outcome x y
+          (of_machine outcome (steps_of command) (program_of image) (first_core image (args_of command)) x y runs) fails all;
       stands = λ other standing _ spells all is.
           let one = one_image bytes other image spells spelled in
-          inl (comes_to_standing outcome command image standing x y runs fails all (subst (λ i. StandsAtBound command i standing x) one is));
+          inl
+          (comes_to_standing outcome command image standing x y runs fails all
+          (subst (λ i. StandsAtBound command i standing x) one is));
     }
 
 -- ---- the promise
@@ -173,7 +180,8 @@ no_fault outcome of OfInput is = subst OfOpening is of
 no_fault outcome of OfOut is = subst OfOpening is of
 no_fault outcome of OfErr is = subst OfOpening is of
 
-fetches_as : {P Q : Type 0} (command : Command) (old new : StoreState) → (P → Q) → OnlyFetches command old new P → OnlyFetches command old new Q
+fetches_as : {P Q : Type 0} (command : Command) (old new : StoreState) → (P → Q) → OnlyFetches command old new P
+    → OnlyFetches command old new Q
 fetches_as command old new through only = record {
   files = only.files;
   fetch_of = only.fetch_of;
@@ -181,7 +189,8 @@ fetches_as command old new through only = record {
   keep_of = only.keep_of;
 }
 
-pub loaded_promise : {P : Type 0} (outcome : Outcome) (command : Command) (old new : StoreState) (x y : Streams) (machine : Loaded) (bound : ℕ)
+pub loaded_promise : {P : Type 0} (outcome : Outcome) (command : Command) (old new : StoreState) (x y : Streams) (machine : Loaded)
+    (bound : ℕ)
     → bound ≡ steps_of command → IsLoaded command old machine → ComesTo outcome bound machine.program machine.core x y → FailsBy outcome x y
     → OnlyFetches command old new P → (P → ⊥) → ExecPromise command outcome (outside old x) (outside new y)
 loaded_promise outcome command old new x y machine bound is_bound loaded ran fails only none =
@@ -198,7 +207,8 @@ loaded_promise outcome command old new x y machine bound is_bound loaded ran fai
       answers = λ bytes f told here still. loaded_answers outcome command bytes old new x y f machine loaded on_image fails told here;
     }
 
-pub not_loaded_promise : {P : Type 0} (outcome : Outcome) (command : Command) (old new : StoreState) (x : Streams) → NotOpened command outcome old new
+pub not_loaded_promise : {P : Type 0} (outcome : Outcome) (command : Command) (old new : StoreState) (x : Streams)
+    → NotOpened command outcome old new
     → OnlyFetches command old new P → (P → outcome ≡ outcomes.StoreFault) → ExecPromise command outcome (outside old x) (outside new x)
 not_loaded_promise outcome command old new x left only through =
     let of = of_opening outcome command old new left in

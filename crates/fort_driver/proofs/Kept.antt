@@ -1,25 +1,28 @@
 -- What was fetched and kept, as the clauses of the top call say it.
-use Rattle.std.proofs.Common.{◌≡◌, ℕ, ◌<◌, ◌≤◌, List, length, false, Option, None, Some, Ok, Err, IsSomeAnd, sym, subst, replicate, suc, arith, refl, inl, inr, ◌∙◌}
+use Rattle.std.proofs.Common.{◌≡◌, ℕ, ◌<◌, ◌≤◌, List, length, false, Option, None, Some, Ok, IsSomeAnd, sym, subst, replicate, suc}
+use Rattle.std.proofs.Common.{arith, refl, inl, inr, ◌∙◌}
 use Rattle.std.proofs.lemmas.List.{length-replicate}
-use Rattle.fc_base.specs.Answers.{Fails}
 use Rattle.fc_base.specs.Outside.{Files, IfTold, Puts, KeepsOthers, Rose}
 use Rattle.fc_base.specs.declared.faults.FetchFault.{FetchFault}
 use Rattle.fc_base.specs.declared.faults.FetchFault.TheVariants as fetch
 use Rattle.fc_base.specs.declared.faults.KeepFault.{KeepFault}
 use Rattle.fc_base.specs.declared.faults.KeepFault.TheVariants as keep
-use Rattle.fc_base.specs.declared.refusals.Fault.{Fault}
-use Rattle.fc_base.specs.declared.refusals.Fault.TheVariants as refused
 use Rattle.fc_base.specs.declared.levels.Level.TheVariants.{Three}
-use Rattle.run_meaning.specs.Objects.{StoreState}
+use Rattle.fc_base.specs.declared.outside.Store.{Ghosts}
+use Rattle.run_meaning.specs.Objects.{StoreState, stored}
 use Rattle.fort_forms.specs.declared.Form.{Form}
 use Rattle.c_front.proofs.Serving.{form_is}
 use Rattle.bm_image.specs.Spelling.{bm_image}
 use Rattle.fort_words.specs.Commands.{Command, level_of, sizes_of, fetched_of, image_of, longest_of}
-use Rattle.fort_words.specs.Outcomes.{after_fetch, after_keep, after_fault}
+use Rattle.fort_words.specs.Outcomes.{after_fetch, after_keep}
 use Rattle.fort_driver.specs.Compiled.{form_image}
 use Rattle.fort_driver.specs.Fort.{Holds, CompilesFor, IsCompiled, KeepsImage, NotCompiled, meaning_for}
 use Rattle.fort_driver.specs.Agreeing.{Agrees}
 use Rattle.fort_driver.proofs.Agreement.{image_ok, agrees, bracketed}
+
+-- what a store tells and counts
+abbrev pub told_by : {S : Type 0} → Ghosts S → S → StoreState
+told_by ghosts store = stored (ghosts.files store) (ghosts.fetch_count store) (ghosts.keep_count store)
 
 -- a list of more than n bytes
 long_list : (n : ℕ) → (bytes : List ℕ) × (n < length bytes)
@@ -30,12 +33,14 @@ pub long_source : (n : ℕ) (files : Option Files) (name : List ℕ) → IfTold 
     → (source : List ℕ) × Holds files name source × (n < length source)
 long_source n None name long = let some = long_list n in (some.0, tt, some.1)
 long_source n (Some f) name long = go (f name) refl long where
-  go : (o : Option (List ℕ)) → f name ≡ o → IsSomeAnd o (λ bytes. n < length bytes) → (source : List ℕ) × (f name ≡ Some source) × (n < length source)
+  go : (o : Option (List ℕ)) → f name ≡ o → IsSomeAnd o (λ bytes. n < length bytes)
+      → (source : List ℕ) × (f name ≡ Some source) × (n < length source)
   go None is long = absurd long
   go (Some source) is long = (source, is, long)
 
 -- the source is compiled as this form
-abbrev pub compiled_as : (command : Command) (old : StoreState) (source read : List ℕ) (form : Form) → Holds old.files (fetched_of command) source
+abbrev pub compiled_as : (command : Command) (old : StoreState) (source read : List ℕ) (form : Form)
+    → Holds old.files (fetched_of command) source
     → length source ≤ longest_of command → read ≡ source → CompilesFor command read (Ok form) → IsCompiled command old form
 compiled_as command old source read form holds short same_source compiles =
     (source, record { held = holds; short = short }, subst (λ s. CompilesFor command s (Ok form)) same_source compiles)
@@ -43,8 +48,10 @@ compiled_as command old source read form holds short same_source compiles =
 -- the form's image was kept, for a command at level 3 without sizes
 abbrev pub kept_image : (command : Command) (old fetched new : StoreState) (source read bytes : List ℕ) (form : Form)
     → level_of command ≡ Three → sizes_of command ≡ false
-    → Holds old.files (fetched_of command) source → length source ≤ longest_of command → fetched.files ≡ old.files → read ≡ source → CompilesFor command read (Ok form)
-    → bytes ≡ bm_image (form_image form) → Puts (image_of command) bytes fetched.files new.files → KeepsImage command old new (form_image form)
+    → Holds old.files (fetched_of command) source → length source ≤ longest_of command → fetched.files ≡ old.files → read ≡ source
+    → CompilesFor command read (Ok form)
+    → bytes ≡ bm_image (form_image form) → Puts (image_of command) bytes fetched.files new.files
+    → KeepsImage command old new (form_image form)
 kept_image command old fetched new source read bytes form level sizes holds short same_files same_source compiles spelled puts = record {
   compiled = form;
   of_source = compiled_as command old source read form holds short same_source compiles;
@@ -61,17 +68,11 @@ pub fetch_failed : (fault : FetchFault) (command : Command) (old new : StoreStat
     → (fault ≡ fetch.TooLong → IfTold old.files (λ f. IsSomeAnd (f (fetched_of command)) (λ bytes. longest_of command < length bytes)))
     → (fault ≡ fetch.Failed → Rose (old.fetch_faults (fetched_of command)) (new.fetch_faults (fetched_of command)))
     → ((name : List ℕ) → new.keep_faults name ≡ old.keep_faults name) → NotCompiled command (after_fetch fault) old new
-fetch_failed fetch.Failed command old new same long rose keeps = inl (record { files = same; fetch = rose refl; keep = keeps (image_of command) })
-fetch_failed fetch.TooLong command old new same long rose keeps = (long_source (longest_of command) old.files (fetched_of command) (long refl), same)
+fetch_failed fetch.Failed command old new same long rose keeps =
+    inl (record { files = same; fetch = rose refl; keep = keeps (image_of command) })
+fetch_failed fetch.TooLong command old new same long rose keeps =
+    (long_source (longest_of command) old.files (fetched_of command) (long refl), same)
 fetch_failed fetch.NoMemory command old new same long rose keeps = inl same
-
--- a front that compiled nothing
-pub front_failed : (fault : Fault) (command : Command) (old new : StoreState) (source read : List ℕ) → new.files ≡ old.files
-    → Holds old.files (fetched_of command) source → length source ≤ longest_of command → read ≡ source → Fails fault (CompilesFor command read)
-    → NotCompiled command (after_fault fault) old new
-front_failed (refused.Refused refusal) command old new source read same holds short same_source fails =
-    ((source, record { held = holds; short = short }, subst (λ s. CompilesFor command s (Err refusal)) same_source fails), same)
-front_failed refused.NoMemory command old new source read same holds short same_source fails = inl same
 
 -- a keep that kept nothing, for a source that is compiled. The store stands between them as the fetch left it
 pub keep_failed : (fault : KeepFault) (command : Command) (old fetched new : StoreState) (form : Form) → IsCompiled command old form

@@ -95,7 +95,7 @@ ComesTo outcomes.OutFault bound program core old new = FailsWithin OfOut bound p
 ComesTo outcomes.ErrFault bound program core old new = FailsWithin OfErr bound program core old new
 ComesTo _ bound program core old new = ⊥
 
--- the same of the machine on an image, with the command's bound and arguments
+-- what it says of the machine on this image, with the command's bound and arguments
 abbrev pub Ran : Command → Outcome → PlainImage → Streams → Streams → Type 0
 Ran command outcome image old new = ComesTo outcome (steps_of command) (program_of image) (first_core image (args_of command)) old new
 
@@ -193,6 +193,12 @@ NotOpened command _ old new = ⊥
 abbrev pub StoodStill : ℕ → ℕ → Type 0
 StoodStill old new = Rose old new → ⊥
 
+-- what is answered by the bytes that the command fetches, where the store tells them and doesn't fail to fetch them
+abbrev pub WhereTold : Command → Outside → Outside → (List ℕ → Type 0) → Type 0
+WhereTold command old new answers =
+    (bytes : List ℕ) (files : Files) → old.store.files ≡ Some files → files (fetched_of command) ≡ Some bytes
+    → StoodStill (old.store.fetch_faults (fetched_of command)) (new.store.fetch_faults (fetched_of command)) → answers bytes
+
 -- the one answer, or want of memory
 abbrev pub IsAnswer : Outcome → Outcome → Type 0
 IsAnswer outcome answer = (outcome ≡ answer) ⊎ (outcome ≡ outcomes.NoMemory)
@@ -265,9 +271,7 @@ pub record ExecPromise (command : Command) (outcome : Outcome) (old new : Outsid
   pub not_run : OfOpening outcome → NotOpened command outcome old.store new.store
   pub store : OnlyFetches command old.store new.store (outcome ≡ outcomes.StoreFault)
   pub failed : (which : Stream) → outcome ≡ fault_outcome which → Failed which old.streams new.streams
-  pub answers : (bytes : List ℕ) (files : Files) → old.store.files ≡ Some files → files (fetched_of command) ≡ Some bytes
-      → StoodStill (old.store.fetch_faults (fetched_of command)) (new.store.fetch_faults (fetched_of command))
-      → ExecAnswers command outcome old new bytes
+  pub answers : WhereTold command old new (ExecAnswers command outcome old new)
 
 -- what `run` promises: which outcomes come; what was kept and what ran; else why not, and what is left; which counts
 -- change; that a stream's fault comes only where its count rose; and, where the store tells the bytes under FILE and doesn't
@@ -279,9 +283,7 @@ pub record RunPromise (command : Command) (outcome : Outcome) (old new : Outside
   pub not_run : OfCompiling outcome → NotCompiled command outcome old.store new.store
   pub counts : KeepsCounts command old.store new.store (outcome ≡ outcomes.StoreFault)
   pub failed : (which : Stream) → outcome ≡ fault_outcome which → Failed which old.streams new.streams
-  pub answers : (source : List ℕ) (files : Files) → old.store.files ≡ Some files → files (fetched_of command) ≡ Some source
-      → StoodStill (old.store.fetch_faults (fetched_of command)) (new.store.fetch_faults (fetched_of command))
-      → RunAnswers command outcome old new source
+  pub answers : WhereTold command old new (RunAnswers command outcome old new)
 
 -- what is promised of a command that is served, and of words that are none: the outcome is Usage, and nothing was touched.
 -- The commands that aren't built are never served

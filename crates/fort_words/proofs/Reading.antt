@@ -1,5 +1,7 @@
 -- The command of some words is the one whose words they are; and how the code reads it, where it is served.
-use Rattle.std.proofs.Common.{◌≡◌, ◌≢◌, ℕ, ◌<◌, ◌≤◌, ◌^◌, ◌+◌, ◌&&◌, Bool, true, false, not, nat_le, cond, IsTrue, is_none, List, [], ◌∷◌, ◌++◌, length, drop, slice_get, append_assoc, Option, None, Some, unwrap_or, ◌⊎◌, inl, inr, codes, decimal, refl, sym, ◌∙◌, ap, subst, arith}
+use Rattle.std.proofs.Common.{◌≡◌, ◌≢◌, ℕ, ◌<◌, ◌≤◌, ◌^◌, ◌+◌, ◌&&◌, Bool, true, false, not, nat_le, cond, IsTrue, is_none, List, [], ◌∷◌}
+use Rattle.std.proofs.Common.{◌++◌, length, drop, slice_get, append_assoc, Option, None, Some, unwrap_or, ◌⊎◌, inl, inr, codes, decimal}
+use Rattle.std.proofs.Common.{refl, sym, ◌∙◌, ap, subst, arith}
 use Rattle.std.specs.Bool.{⊤}
 use Rattle.std.specs.Option.{option_map}
 use Rattle.std.specs.Str.{bytes_eq}
@@ -15,7 +17,12 @@ use Rattle.std.specs.Str.Parse.{AllDigits}
 use Rattle.fc_base.specs.declared.levels.Level.{Level}
 use Rattle.fc_base.specs.declared.levels.Level.TheVariants as levels
 use Rattle.run_meaning.specs.Worlds.{arguments_size, most_arguments}
-use Rattle.fort_words.specs.Commands.{Options, Command, Build, Exec, Run, Sites, Mean, Gen, level_words, sizes_words, steps_words, options_words, args_words, run_words, words_of, is_name, most_steps, last_source, StepsFit, ArgsFit, StepsAlone, IsCommand, Means, number_of, level_of_word, optional, option_read, flag_read, level_read, sizes_read, steps_read, options_read, steps_alone, name_read, names_read, args_read, end_read, number_read, build_read, exec_read, run_read, sites_read, mean_read, gen_read, command_of, CommandIsItsWords, is_built, if_built, served, only_steps}
+use Rattle.fort_words.specs.Commands.{Options, Command, Build, Exec, Run, Sites, Mean, Gen, level_words, sizes_words, steps_words}
+use Rattle.fort_words.specs.Commands.{options_words, args_words, run_words, words_of, is_name, most_steps, last_source, StepsFit, ArgsFit}
+use Rattle.fort_words.specs.Commands.{StepsAlone, IsCommand, Means, number_of, level_of_word, optional, option_read, flag_read}
+use Rattle.fort_words.specs.Commands.{level_read, sizes_read, steps_read, options_read, steps_alone, name_read, names_read, args_read}
+use Rattle.fort_words.specs.Commands.{end_read, number_read, build_read, exec_read, run_read, sites_read, mean_read, gen_read, command_of}
+use Rattle.fort_words.specs.Commands.{CommandIsItsWords, is_built, if_built, served, only_steps}
 
 -- ---- words and names
 
@@ -40,7 +47,8 @@ numerals = record { to = λ ds all. all; from = λ ds all. all; same = λ ds all
 
 number_sound : (low high : ℕ) (word : List ℕ) (n : ℕ) → number_of low high word ≡ Some n → (word ≡ decimal n) × (low ≤ n) × (n ≤ high)
 number_sound low high word n e = go (digits_value 10 word) _ refl e where
-  go : (m : ℕ) (t : Bool) → (bytes_eq word (decimal m) && (nat_le low m && nat_le m high)) ≡ t → cond t (Some m) None ≡ Some n → (word ≡ decimal n) × (low ≤ n) × (n ≤ high)
+  go : (m : ℕ) (t : Bool) → (bytes_eq word (decimal m) && (nat_le low m && nat_le m high)) ≡ t → cond t (Some m) None ≡ Some n
+      → (word ≡ decimal n) × (low ≤ n) × (n ≤ high)
   go m false test e = absurd (cc)
   go m true test e =
       let is : m ≡ n = cc in
@@ -52,7 +60,8 @@ number_there : (low high n : ℕ) → n < 2 ^ 64 → low ≤ n → n ≤ high �
 number_there low high n small least most =
     let value : digits_value 10 (decimal n) ≡ n = digits_value-decimal numerals n small in
     let test = and_from _ _ (equal (decimal n)) (and_from _ _ (le-leb low n least) (le-leb n high most)) in
-    ap (λ m. cond (bytes_eq (decimal n) (decimal m) && (nat_le low m && nat_le m high)) (Some m) None) value ∙ ap (λ t. cond t (Some n) None) test
+    ap (λ m. cond (bytes_eq (decimal n) (decimal m) && (nat_le low m && nat_le m high)) (Some m) None) value
+    ∙ ap (λ t. cond t (Some n) None) test
 
 -- ---- options, with the spelling of their values
 
@@ -83,12 +92,14 @@ module _ {A : Type 0} (name : List ℕ) (read : List ℕ → Option A) (spell : 
   option_keeps P keeps [] value e = absurd (cc)
   option_keeps P keeps (word ∷ []) value e = absurd (cc)
   option_keeps P keeps (word ∷ given ∷ rest) value e = go (bytes_eq word name) (read given) refl e where
-    go : (t : Bool) (o : Option A) → read given ≡ o → (cond t (optional (word ∷ given ∷ rest) rest o) (None, word ∷ given ∷ rest)).0 ≡ Some value → P value
+    go : (t : Bool) (o : Option A) → read given ≡ o
+        → (cond t (optional (word ∷ given ∷ rest) rest o) (None, word ∷ given ∷ rest)).0 ≡ Some value → P value
     go false o is e = absurd (cc)
     go true None is e = absurd (cc)
     go true (Some other) is e = let one : other ≡ value = cc in keeps given value (is ∙ ap Some one)
 
-  option_there : (o : Option A) (rest : List (List ℕ)) → ((value : A) → o ≡ Some value → read (spell value) ≡ Some value) → (o ≡ None → OtherThan name rest)
+  option_there : (o : Option A) (rest : List (List ℕ)) → ((value : A) → o ≡ Some value → read (spell value) ≡ Some value)
+      → (o ≡ None → OtherThan name rest)
       → option_read name read (option_words name spell o ++ rest) ≡ (o, rest)
   option_there None [] reads other = refl
   option_there None (word ∷ []) reads other = refl
@@ -109,7 +120,8 @@ flag_sound name (word ∷ rest) = go (bytes_eq word name) refl where
   go false test = refl
   go true test = ap (λ w. w ∷ rest) (same word name test)
 
-flag_there : (name : List ℕ) (t : Bool) (rest : List (List ℕ)) → (t ≡ false → OtherThan name rest) → flag_read name (flag_words name t ++ rest) ≡ (t, rest)
+flag_there : (name : List ℕ) (t : Bool) (rest : List (List ℕ)) → (t ≡ false → OtherThan name rest)
+    → flag_read name (flag_words name t ++ rest) ≡ (t, rest)
 flag_there name true rest other = rw (equal name) refl
 flag_there name false [] other = refl
 flag_there name false (word ∷ rest) other = rw (other refl) refl
@@ -139,7 +151,8 @@ run_as true = refl
 
 level_spells : (word : List ℕ) (value : Level) → level_of_word word ≡ Some value → word ≡ level_spelled value
 level_spells word value e = go (bytes_eq word (codes "0")) (bytes_eq word (codes "3")) refl refl e where
-  go : (s t : Bool) → bytes_eq word (codes "0") ≡ s → bytes_eq word (codes "3") ≡ t → cond s (Some levels.Zero) (cond t (Some levels.Three) None) ≡ Some value
+  go : (s t : Bool) → bytes_eq word (codes "0") ≡ s → bytes_eq word (codes "3") ≡ t
+      → cond s (Some levels.Zero) (cond t (Some levels.Three) None) ≡ Some value
       → word ≡ level_spelled value
   go true t zero three e = let is : levels.Zero ≡ value = cc in same word (codes "0") zero ∙ ap level_spelled is
   go false true zero three e = let is : levels.Three ≡ value = cc in same word (codes "3") three ∙ ap level_spelled is
@@ -150,7 +163,9 @@ level_reads levels.Zero = refl
 level_reads levels.Three = refl
 
 level_sound : (words : List (List ℕ)) → words ≡ level_words (level_read words).0 ++ (level_read words).1
-level_sound words = option_sound (codes "--level") level_of_word level_spelled level_spells words ∙ ap (λ w. w ++ (level_read words).1) (level_as (level_read words).0)
+level_sound words =
+    option_sound (codes "--level") level_of_word level_spelled level_spells words
+    ∙ ap (λ w. w ++ (level_read words).1) (level_as (level_read words).0)
 
 steps_sound : (words : List (List ℕ)) → words ≡ steps_words (steps_read words).0 ++ (steps_read words).1
 steps_sound words =
@@ -162,19 +177,23 @@ steps_keep words = go (steps_read words).0 refl where
   go : (o : Option ℕ) → (steps_read words).0 ≡ o → StepsFit o
   go None is = tt
   go (Some n) is =
-      option_keeps (codes "--steps") (number_of 1 most_steps) decimal (λ k. (1 ≤ k) × (k ≤ most_steps)) (λ word k e. let found = number_sound 1 most_steps word k e in (found.1, found.2)) words n is
+      option_keeps (codes "--steps") (number_of 1 most_steps) decimal (λ k. (1 ≤ k) × (k ≤ most_steps))
+      (λ word k e. let found = number_sound 1 most_steps word k e in (found.1, found.2)) words n is
 
 sizes_sound : (words : List (List ℕ)) → words ≡ sizes_words (sizes_read words).0 ++ (sizes_read words).1
 sizes_sound words = flag_sound (codes "--sizes") words ∙ ap (λ w. w ++ (sizes_read words).1) (sizes_as (sizes_read words).0)
 
 level_there : (o : Option Level) (rest : List (List ℕ)) → OtherThan (codes "--level") rest → level_read (level_words o ++ rest) ≡ (o, rest)
 level_there o rest other =
-    ap (λ w. level_read (w ++ rest)) (sym (level_as o)) ∙ option_there (codes "--level") level_of_word level_spelled o rest (λ value _. level_reads value) (λ _. other)
+    ap (λ w. level_read (w ++ rest)) (sym (level_as o))
+    ∙ option_there (codes "--level") level_of_word level_spelled o rest (λ value _. level_reads value) (λ _. other)
 
-steps_there : (o : Option ℕ) (rest : List (List ℕ)) → StepsFit o → OtherThan (codes "--steps") rest → steps_read (steps_words o ++ rest) ≡ (o, rest)
+steps_there : (o : Option ℕ) (rest : List (List ℕ)) → StepsFit o → OtherThan (codes "--steps") rest
+    → steps_read (steps_words o ++ rest) ≡ (o, rest)
 steps_there o rest fit other =
     ap (λ w. steps_read (w ++ rest)) (sym (steps_as o))
-    ∙ option_there (codes "--steps") (number_of 1 most_steps) decimal o rest (λ n is. let fits = subst StepsFit is fit in number_there 1 most_steps n (omega arith) fits.0 fits.1) (λ _. other)
+    ∙ option_there (codes "--steps") (number_of 1 most_steps) decimal o rest
+    (λ n is. let fits = subst StepsFit is fit in number_there 1 most_steps n (omega arith) fits.0 fits.1) (λ _. other)
 
 sizes_there : (t : Bool) (rest : List (List ℕ)) → OtherThan (codes "--sizes") rest → sizes_read (sizes_words t ++ rest) ≡ (t, rest)
 sizes_there t rest other = ap (λ w. sizes_read (w ++ rest)) (sym (sizes_as t)) ∙ flag_there (codes "--sizes") t rest (λ _. other)
@@ -205,7 +224,8 @@ options_there options name more fit ok =
     ap options_read (joined (level_words options.level) (sizes_words options.sizes) (steps_words options.steps) rest)
     ∙ (ap (λ l. let z = sizes_read l.1 in given l.0 z.0 (steps_read z.1))
     (level_there options.level (sizes_words options.sizes ++ (steps_words options.steps ++ rest)) (by_sizes options.sizes options.steps))
-    ∙ (ap (λ z. given options.level z.0 (steps_read z.1)) (sizes_there options.sizes (steps_words options.steps ++ rest) (by_steps options.steps))
+    ∙ (ap (λ z. given options.level z.0 (steps_read z.1))
+    (sizes_there options.sizes (steps_words options.steps ++ rest) (by_steps options.steps))
     ∙ ap (given options.level options.sizes) (steps_there options.steps rest fit (no_option name _ ok)))) where
       by_steps : (o : Option ℕ) → OtherThan (codes "--sizes") (steps_words o ++ name ∷ more)
       by_steps None = no_option name _ ok
@@ -241,12 +261,16 @@ args_sound : (made : Option (List (List ℕ)) → Command) (words : List (List �
     → (args : Option (List (List ℕ))) × (words ≡ args_words args) × (made args ≡ command) × ArgsFit args
 args_sound made [] command e = (None, refl, cc, tt)
 args_sound made (word ∷ args) command e = go (bytes_eq word (codes "--") && nat_le (arguments_size args) most_arguments) refl e where
-  go : (t : Bool) → (bytes_eq word (codes "--") && nat_le (arguments_size args) most_arguments) ≡ t → cond t (Some (made (Some args))) None ≡ Some command
+  go : (t : Bool) → (bytes_eq word (codes "--") && nat_le (arguments_size args) most_arguments) ≡ t
+      → cond t (Some (made (Some args))) None ≡ Some command
       → (some : Option (List (List ℕ))) × (word ∷ args ≡ args_words some) × (made some ≡ command) × ArgsFit some
   go false test e = absurd (cc)
-  go true test e = let p = and_parts _ _ test in (Some args, ap (λ w. w ∷ args) (same word (codes "--") p.0), cc, leb-true (arguments_size args) most_arguments p.1)
+  go true test e =
+      let p = and_parts _ _ test in
+      (Some args, ap (λ w. w ∷ args) (same word (codes "--") p.0), cc, leb-true (arguments_size args) most_arguments p.1)
 
-args_there : (made : Option (List (List ℕ)) → Command) (args : Option (List (List ℕ))) → ArgsFit args → args_read made (args_words args) ≡ Some (made args)
+args_there : (made : Option (List (List ℕ)) → Command) (args : Option (List (List ℕ))) → ArgsFit args
+    → args_read made (args_words args) ≡ Some (made args)
 args_there made None fit = refl
 args_there made (Some args) fit = rw (le-leb (arguments_size args) most_arguments fit) refl
 
@@ -254,7 +278,8 @@ end_sound : (made command : Command) (words : List (List ℕ)) → end_read made
 end_sound made command [] e = (refl, cc)
 end_sound made command (word ∷ words) e = absurd (cc)
 
-name_sound : (next : List ℕ → List (List ℕ) → Option Command) (words : List (List ℕ)) (command : Command) → name_read next words ≡ Some command
+name_sound : (next : List ℕ → List (List ℕ) → Option Command) (words : List (List ℕ)) (command : Command)
+    → name_read next words ≡ Some command
     → (name : List ℕ) × (rest : List (List ℕ)) × (words ≡ name ∷ rest) × IsTrue (is_name name) × (next name rest ≡ Some command)
 name_sound next [] command e = absurd (cc)
 name_sound next (name ∷ rest) command e = go (is_name name) refl e where
@@ -263,7 +288,8 @@ name_sound next (name ∷ rest) command e = go (is_name name) refl e where
   go false test e = absurd (cc)
   go true test e = (name, rest, refl, test, e)
 
-names_sound : (next : List ℕ → List ℕ → List (List ℕ) → Option Command) (words : List (List ℕ)) (command : Command) → names_read next words ≡ Some command
+names_sound : (next : List ℕ → List ℕ → List (List ℕ) → Option Command) (words : List (List ℕ)) (command : Command)
+    → names_read next words ≡ Some command
     → (file image : List ℕ) × (rest : List (List ℕ)) × (words ≡ file ∷ image ∷ rest)
     × (IsTrue (is_name file) × IsTrue (is_name image) × (file ≢ image)) × (next file image rest ≡ Some command)
 names_sound next [] command e = absurd (cc)
@@ -289,7 +315,8 @@ run_there : (options : Options) (file image : List ℕ) (args : Option (List (Li
     → run_read (options_words options ++ file ∷ image ∷ args_words args) ≡ Some (Run options file image args)
 run_there options file image args ok =
     ap (λ o. names_read (λ f i. args_read (Run o.0 f i)) o.1) (options_there options file (image ∷ args_words args) ok.0 ok.1)
-    ∙ (names_there (λ f i. args_read (Run options f i)) file image (args_words args) ok.1 ok.2 ok.3 ∙ args_there (Run options file image) args ok.4)
+    ∙ (names_there (λ f i. args_read (Run options f i)) file image (args_words args) ok.1 ok.2 ok.3
+    ∙ args_there (Run options file image) args ok.4)
 
 build_there : (options : Options) (file image : List ℕ) → IsCommand (Build options file image)
     → build_read (options_words options ++ file ∷ image ∷ []) ≡ Some (Build options file image)
@@ -299,12 +326,15 @@ build_there options file image ok =
     ∙ (ap (λ t. cond t (names_read (λ f i. end_read (Build options f i)) (file ∷ image ∷ [])) None) (none_is options.steps ok.0)
     ∙ names_there (λ f i. end_read (Build options f i)) file image [] ok.1 ok.2 ok.3)
 
-named_there : (made : Options → List ℕ → Option (List (List ℕ)) → Command) (options : Options) (name : List ℕ) (args : Option (List (List ℕ)))
+named_there : (made : Options → List ℕ → Option (List (List ℕ)) → Command) (options : Options) (name : List ℕ)
+    (args : Option (List (List ℕ)))
     → StepsAlone options → StepsFit options.steps → IsTrue (is_name name) → ArgsFit args
-    → (let o = options_read (options_words options ++ name ∷ args_words args) in cond (steps_alone o.0) (name_read (λ n. args_read (made o.0 n)) o.1) None)
+    → (let o = options_read (options_words options ++ name ∷ args_words args) in cond (steps_alone o.0)
+    (name_read (λ n. args_read (made o.0 n)) o.1) None)
     ≡ Some (made options name args)
 named_there made options name args alone fit ok all =
-    ap (λ o. cond (steps_alone o.0) (name_read (λ n. args_read (made o.0 n)) o.1) None) (options_there options name (args_words args) fit ok)
+    ap (λ o. cond (steps_alone o.0) (name_read (λ n. args_read (made o.0 n)) o.1) None)
+    (options_there options name (args_words args) fit ok)
     ∙ (ap (λ t. cond t (name_read (λ n. args_read (made options n)) (name ∷ args_words args)) None) (steps_alone_there options alone)
     ∙ (ap (λ t. cond t (args_read (made options name) (args_words args)) None) ok ∙ args_there (made options name) args all))
 
@@ -314,10 +344,12 @@ dashes all = omega arith
 gen_there : (run : Bool) (number : ℕ) → IsCommand (Gen run number) → gen_read (run_words run ++ decimal number ∷ []) ≡ Some (Gen run number)
 gen_there run number ok =
     let read : flag_read (codes "--run") (run_words run ++ decimal number ∷ []) ≡ (run, decimal number ∷ []) =
-    ap (λ w. flag_read (codes "--run") (w ++ decimal number ∷ [])) (sym (run_as run)) ∙ flag_there (codes "--run") run (decimal number ∷ []) (λ _. no_digits number ok) in
+    ap (λ w. flag_read (codes "--run") (w ++ decimal number ∷ [])) (sym (run_as run))
+    ∙ flag_there (codes "--run") run (decimal number ∷ []) (λ _. no_digits number ok) in
     ap (λ r. number_read (Gen r.0) r.1) read ∙ ap (option_map (Gen run)) (number_there 1 last_source number (omega arith) ok.0 ok.1) where
       no_digits : (n : ℕ) → (1 ≤ n) × (n ≤ last_source) → bytes_eq (decimal n) (codes "--run") ≡ false
-      no_digits n in_bounds = differ (decimal n) (codes "--run") (λ is. dashes (subst (AllDigits 10) is (digits_decimal numerals n (omega arith))))
+      no_digits n in_bounds =
+          differ (decimal n) (codes "--run") (λ is. dashes (subst (AllDigits 10) is (digits_decimal numerals n (omega arith))))
 
 -- ---- and only then
 
@@ -357,31 +389,46 @@ named_sound made words command e =
     let takes = passed (steps_alone options.0) _ command e in
     let named = name_sound (λ n. args_read (made options.0 n)) options.1 command takes.1 in
     let given = args_sound (made options.0 named.0) named.1 command named.4 in
-    let last : options.1 ≡ named.0 ∷ args_words given.0 = named.2 ∙ ap (λ rest. named.0 ∷ rest) given.1 in
-    (options.0, named.0, given.0, options_sound words ∙ ap (λ w. options_words options.0 ++ w) last, given.2, steps_alone_sound options.0 takes.0, options_keep words, named.3, given.3)
+    let last : options.1 ≡ named.0 ∷ args_words given.0 = named.2 ∙ ap (λ rest. named.0 ∷ rest) given.1 in (
+      options.0,
+      named.0,
+      given.0,
+      options_sound words
+          ∙ ap (λ w. options_words options.0 ++ w) last,
+      given.2,
+      steps_alone_sound options.0 takes.0,
+      options_keep words,
+      named.3,
+      given.3,
+    )
 
 exec_sound : (words : List (List ℕ)) (command : Command) → exec_read words ≡ Some command → Means (codes "exec" ∷ words) command
 exec_sound words command e =
     let parts = named_sound Exec words command e in
-    subst (Means (codes "exec" ∷ words)) parts.4 (record { kept = (parts.5, parts.6, parts.7, parts.8); spelled = ap (λ w. codes "exec" ∷ w) parts.3 })
+    subst (Means (codes "exec" ∷ words)) parts.4
+    (record { kept = (parts.5, parts.6, parts.7, parts.8); spelled = ap (λ w. codes "exec" ∷ w) parts.3 })
 
 mean_sound : (words : List (List ℕ)) (command : Command) → mean_read words ≡ Some command → Means (codes "mean" ∷ words) command
 mean_sound words command e =
     let parts = named_sound Mean words command e in
-    subst (Means (codes "mean" ∷ words)) parts.4 (record { kept = (parts.5, parts.6, parts.7, parts.8); spelled = ap (λ w. codes "mean" ∷ w) parts.3 })
+    subst (Means (codes "mean" ∷ words)) parts.4
+    (record { kept = (parts.5, parts.6, parts.7, parts.8); spelled = ap (λ w. codes "mean" ∷ w) parts.3 })
 
 sites_sound : (words : List (List ℕ)) (command : Command) → sites_read words ≡ Some command → Means (codes "sites" ∷ words) command
 sites_sound words command e =
     let named = name_sound (λ f. end_read (Sites f)) words command e in
     let ended = end_sound (Sites named.0) command named.1 named.4 in
-    subst (Means (codes "sites" ∷ words)) ended.1 (record { kept = named.3; spelled = ap (λ w. codes "sites" ∷ w) (named.2 ∙ ap (λ rest. named.0 ∷ rest) ended.0) })
+    subst (Means (codes "sites" ∷ words)) ended.1
+    (record { kept = named.3; spelled = ap (λ w. codes "sites" ∷ w) (named.2 ∙ ap (λ rest. named.0 ∷ rest) ended.0) })
 
 gen_sound : (words : List (List ℕ)) (command : Command) → gen_read words ≡ Some command → Means (codes "gen" ∷ words) command
 gen_sound words command e = go (flag_read (codes "--run") words) (flag_sound (codes "--run") words) e where
-  go : (r : Bool × List (List ℕ)) → words ≡ flag_words (codes "--run") r.0 ++ r.1 → number_read (Gen r.0) r.1 ≡ Some command → Means (codes "gen" ∷ words) command
+  go : (r : Bool × List (List ℕ)) → words ≡ flag_words (codes "--run") r.0 ++ r.1 → number_read (Gen r.0) r.1 ≡ Some command
+      → Means (codes "gen" ∷ words) command
   go (run, []) is e = absurd (cc)
   go (run, word ∷ []) is e = numbered (number_of 1 last_source word) refl e where
-    numbered : (o : Option ℕ) → number_of 1 last_source word ≡ o → option_map (Gen run) o ≡ Some command → Means (codes "gen" ∷ words) command
+    numbered : (o : Option ℕ) → number_of 1 last_source word ≡ o → option_map (Gen run) o ≡ Some command
+        → Means (codes "gen" ∷ words) command
     numbered None found e = absurd (cc)
     numbered (Some n) found e =
         let made : Gen run n ≡ command = cc in
@@ -402,17 +449,21 @@ there (Sites file) ok = ap (λ t. cond t (Some (Sites file)) None) ok
 there (Mean options file args) ok = named_there Mean options file args ok.0 ok.1 ok.2 ok.3
 there (Gen run number) ok = gen_there run number ok
 
-verbed : {verb known : List ℕ} (rest : List (List ℕ)) (command : Command) → bytes_eq verb known ≡ true → Means (known ∷ rest) command → Means (verb ∷ rest) command
+verbed : {verb known : List ℕ} (rest : List (List ℕ)) (command : Command) → bytes_eq verb known ≡ true → Means (known ∷ rest) command
+    → Means (verb ∷ rest) command
 verbed {verb = verb} {known = known} rest command test means = subst (λ v. Means (v ∷ rest) command) (sym (same verb known test)) means
 
 sound : (words : List (List ℕ)) (command : Command) → command_of words ≡ Some command → Means words command
 sound [] command e = absurd (cc)
 sound (verb ∷ rest) command e =
-    go (bytes_eq verb (codes "build")) (bytes_eq verb (codes "exec")) (bytes_eq verb (codes "run")) (bytes_eq verb (codes "sites")) (bytes_eq verb (codes "mean"))
+    go (bytes_eq verb (codes "build")) (bytes_eq verb (codes "exec")) (bytes_eq verb (codes "run")) (bytes_eq verb (codes "sites"))
+    (bytes_eq verb (codes "mean"))
     (bytes_eq verb (codes "gen")) refl refl refl refl refl refl e where
       go : (b x r s m g : Bool) → bytes_eq verb (codes "build") ≡ b → bytes_eq verb (codes "exec") ≡ x → bytes_eq verb (codes "run") ≡ r
           → bytes_eq verb (codes "sites") ≡ s → bytes_eq verb (codes "mean") ≡ m → bytes_eq verb (codes "gen") ≡ g
-          → cond b (build_read rest) (cond x (exec_read rest) (cond r (run_read rest) (cond s (sites_read rest) (cond m (mean_read rest) (cond g (gen_read rest) None)))))
+          → cond b (build_read rest)
+          (cond x (exec_read rest)
+          (cond r (run_read rest) (cond s (sites_read rest) (cond m (mean_read rest) (cond g (gen_read rest) None)))))
           ≡ Some command → Means (verb ∷ rest) command
       go true x r s m g b' x' r' s' m' g' e = verbed rest command b' (build_sound rest command e)
       go false true r s m g b' x' r' s' m' g' e = verbed rest command x' (exec_sound rest command e)
@@ -441,13 +492,15 @@ record OtherOption (words : List (List ℕ)) : Type 0 where
   pub stands : words ≡ word ∷ rest
   pub no_name : is_name word ≡ false
 
-no_steps_behind : (word : List ℕ) (rest : List (List ℕ)) → bytes_eq word (codes "--steps") ≡ false → steps_read (word ∷ rest) ≡ (None, word ∷ rest)
+no_steps_behind : (word : List ℕ) (rest : List (List ℕ)) → bytes_eq word (codes "--steps") ≡ false
+    → steps_read (word ∷ rest) ≡ (None, word ∷ rest)
 no_steps_behind word [] other = refl
 no_steps_behind word (value ∷ rest) other = rw other refl
 
 by_options : (words : List (List ℕ)) → StepsOnly words ⊎ OtherOption words
 by_options words = by_level (level_read words).0 refl where
-  by_sizes : (t : Bool) → (sizes_read (level_read words).1).0 ≡ t → (level_read words).0 ≡ None → words ≡ (level_read words).1 → StepsOnly words ⊎ OtherOption words
+  by_sizes : (t : Bool) → (sizes_read (level_read words).1).0 ≡ t → (level_read words).0 ≡ None → words ≡ (level_read words).1
+      → StepsOnly words ⊎ OtherOption words
   by_sizes true is none same =
       let rest = (sizes_read (level_read words).1).1 in
       let stands : words ≡ codes "--sizes" ∷ rest = same ∙ (sizes_sound (level_read words).1 ∙ ap (λ t. sizes_words t ++ rest) is) in
@@ -462,14 +515,18 @@ by_options words = by_level (level_read words).0 refl where
   by_sizes false is none same =
       let sizes = sizes_read (level_read words).1 in
       let rest : sizes.1 ≡ words = sym (same ∙ (sizes_sound (level_read words).1 ∙ ap (λ t. sizes_words t ++ sizes.1) is)) in
-      inl (ap (λ l. given l sizes.0 (steps_read sizes.1)) none ∙ (ap (λ z. given None z (steps_read sizes.1)) is ∙ ap (λ w. given None false (steps_read w)) rest))
+      inl
+      (ap (λ l. given l sizes.0 (steps_read sizes.1)) none
+      ∙ (ap (λ z. given None z (steps_read sizes.1)) is ∙ ap (λ w. given None false (steps_read w)) rest))
 
   by_level : (o : Option Level) → (level_read words).0 ≡ o → StepsOnly words ⊎ OtherOption words
-  by_level None is = by_sizes (sizes_read (level_read words).1).0 refl is (level_sound words ∙ ap (λ o. level_words o ++ (level_read words).1) is)
+  by_level None is =
+      by_sizes (sizes_read (level_read words).1).0 refl is (level_sound words ∙ ap (λ o. level_words o ++ (level_read words).1) is)
   by_level (Some level) is =
       let rest = level_spelled level ∷ (level_read words).1 in
       let stands : words ≡ codes "--level" ∷ rest =
-      level_sound words ∙ (ap (λ o. level_words o ++ (level_read words).1) is ∙ ap (λ w. w ++ (level_read words).1) (sym (level_as (Some level)))) in
+      level_sound words
+      ∙ (ap (λ o. level_words o ++ (level_read words).1) is ∙ ap (λ w. w ++ (level_read words).1) (sym (level_as (Some level)))) in
       inr (record {
         other = ap (λ o. is_none o && not (options_read words).0.sizes) is;
         no_steps = subst (λ w. steps_read w ≡ (None, w)) (sym stands) (no_steps_behind (codes "--level") rest refl);
@@ -484,7 +541,8 @@ either_way : (t : Bool) (o : Option Command) → o ≡ cond t o o
 either_way true o = refl
 either_way false o = refl
 
-built_args : (made : Option (List (List ℕ)) → Command) (t : Bool) → ((args : Option (List (List ℕ))) → is_built (made args) ≡ t) → (words : List (List ℕ))
+built_args : (made : Option (List (List ℕ)) → Command) (t : Bool) → ((args : Option (List (List ℕ))) → is_built (made args) ≡ t)
+    → (words : List (List ℕ))
     → if_built (args_read made words) ≡ cond t (args_read made words) None
 built_args made t is [] = ap (λ b. cond b (Some (made None)) None) (is None)
 built_args made t is (word ∷ args) = go (bytes_eq word (codes "--") && nat_le (arguments_size args) most_arguments) where
@@ -492,7 +550,8 @@ built_args made t is (word ∷ args) = go (bytes_eq word (codes "--") && nat_le 
   go false = either_way t None
   go true = ap (λ b. cond b (Some (made (Some args))) None) (is (Some args))
 
-built_name : (next : List ℕ → List (List ℕ) → Option Command) (t : Bool) → ((name : List ℕ) (rest : List (List ℕ)) → if_built (next name rest) ≡ cond t (next name rest) None)
+built_name : (next : List ℕ → List (List ℕ) → Option Command) (t : Bool)
+    → ((name : List ℕ) (rest : List (List ℕ)) → if_built (next name rest) ≡ cond t (next name rest) None)
     → (words : List (List ℕ)) → if_built (name_read next words) ≡ cond t (name_read next words) None
 built_name next t is [] = either_way t None
 built_name next t is (name ∷ rest) = go (is_name name) where
@@ -523,14 +582,18 @@ exec_by_steps words = go (by_options words) where
   go (inl only) =
       let steps = (steps_read words).0 in
       ap (λ o. if_built (cond (steps_alone o.0) (name_read (λ image. args_read (Exec o.0 image)) o.1) None)) only
-      ∙ built_name (λ image. args_read (Exec (only_steps steps) image)) true (λ image. built_args (Exec (only_steps steps) image) true (λ args. refl)) (steps_read words).1
+      ∙ built_name (λ image. args_read (Exec (only_steps steps) image)) true
+      (λ image. built_args (Exec (only_steps steps) image) true (λ args. refl)) (steps_read words).1
   go (inr o) =
       ap (λ t. if_built (cond t (name_read (λ image. args_read (Exec (options_read words).0 image)) (options_read words).1) None)) o.other
-      ∙ sym (ap (λ s. exec_behind s.0 s.1) o.no_steps ∙ (ap (exec_behind None) o.stands ∙ ap (λ t. cond t (args_read (Exec (only_steps None) o.word) o.rest) None) o.no_name))
+      ∙ sym
+      (ap (λ s. exec_behind s.0 s.1) o.no_steps
+      ∙ (ap (exec_behind None) o.stands ∙ ap (λ t. cond t (args_read (Exec (only_steps None) o.word) o.rest) None) o.no_name))
 
 run_by_steps : (words : List (List ℕ)) → if_built (run_read words) ≡ run_behind (steps_read words).0 (steps_read words).1
 run_by_steps words = go (by_options words) where
-  unnamed : (next : List ℕ → List ℕ → List (List ℕ) → Option Command) (word : List ℕ) (rest : List (List ℕ)) → is_name word ≡ false → names_read next (word ∷ rest) ≡ None
+  unnamed : (next : List ℕ → List ℕ → List (List ℕ) → Option Command) (word : List ℕ) (rest : List (List ℕ)) → is_name word ≡ false
+      → names_read next (word ∷ rest) ≡ None
   unnamed next word [] test = refl
   unnamed next word (image ∷ rest) test = rw test refl
 
@@ -544,26 +607,33 @@ run_by_steps words = go (by_options words) where
       let options = (options_read words).0 in
       built_names (λ file image. args_read (Run options file image)) false
       (λ file image. built_args (Run options file image) false (λ args. o.other)) (options_read words).1
-      ∙ sym (ap (λ s. run_behind s.0 s.1) o.no_steps ∙ (ap (run_behind None) o.stands ∙ unnamed (λ file image. args_read (Run (only_steps None) file image)) o.word o.rest o.no_name))
+      ∙ sym
+      (ap (λ s. run_behind s.0 s.1) o.no_steps
+      ∙ (ap (run_behind None) o.stands
+      ∙ unnamed (λ file image. args_read (Run (only_steps None) file image)) o.word o.rest o.no_name))
 
 -- what stands behind the bound, as the code finds it
-pub exec_named : (words rest more : List (List ℕ)) (steps : Option ℕ) (image : List ℕ) → steps ≡ (steps_read words).0 → rest ≡ (steps_read words).1
+pub exec_named : (words rest more : List (List ℕ)) (steps : Option ℕ) (image : List ℕ) → steps ≡ (steps_read words).0
+    → rest ≡ (steps_read words).1
     → is_name image ≡ true → rest ≡ image ∷ more → args_read (Exec (only_steps steps) image) more ≡ if_built (exec_read words)
 exec_named words rest more steps image same behind named stands =
     sym (exec_by_steps words ∙ (ap (λ s. exec_behind s (steps_read words).1) (sym same) ∙ (ap (exec_behind steps) (sym behind ∙ stands)
     ∙ ap (λ t. cond t (args_read (Exec (only_steps steps) image) more) None) named)))
 
-pub exec_unnamed : (words rest : List (List ℕ)) → rest ≡ (steps_read words).1 → ((next : List ℕ → List (List ℕ) → Option Command) → name_read next rest ≡ None)
+pub exec_unnamed : (words rest : List (List ℕ)) → rest ≡ (steps_read words).1
+    → ((next : List ℕ → List (List ℕ) → Option Command) → name_read next rest ≡ None)
     → None ≡ if_built (exec_read words)
 exec_unnamed words rest behind none = sym (exec_by_steps words ∙ (ap (exec_behind (steps_read words).0) (sym behind) ∙ none _))
 
-pub run_named : (words rest more : List (List ℕ)) (steps : Option ℕ) (file image : List ℕ) → steps ≡ (steps_read words).0 → rest ≡ (steps_read words).1
+pub run_named : (words rest more : List (List ℕ)) (steps : Option ℕ) (file image : List ℕ) → steps ≡ (steps_read words).0
+    → rest ≡ (steps_read words).1
     → ((next : List ℕ → List ℕ → List (List ℕ) → Option Command) → names_read next rest ≡ next file image more)
     → args_read (Run (only_steps steps) file image) more ≡ if_built (run_read words)
 run_named words rest more steps file image same behind named =
     sym (run_by_steps words ∙ (ap (λ s. run_behind s (steps_read words).1) (sym same) ∙ (ap (run_behind steps) (sym behind) ∙ named _)))
 
-pub run_unnamed : (words rest : List (List ℕ)) → rest ≡ (steps_read words).1 → ((next : List ℕ → List ℕ → List (List ℕ) → Option Command) → names_read next rest ≡ None)
+pub run_unnamed : (words rest : List (List ℕ)) → rest ≡ (steps_read words).1
+    → ((next : List ℕ → List ℕ → List (List ℕ) → Option Command) → names_read next rest ≡ None)
     → None ≡ if_built (run_read words)
 run_unnamed words rest behind none = sym (run_by_steps words ∙ (ap (run_behind (steps_read words).0) (sym behind) ∙ none _))
 
@@ -587,7 +657,8 @@ pub room_more : (words : List (List ℕ)) (at : ℕ) (word : List ℕ) → drop 
 room_more words at word stands = ap arguments_size stands ∙ sum_by-cons (λ w. length w + 32) word (drop (at + 1) words)
 
 -- the word at a place stands before those behind it
-pub at_place : (words : List (List ℕ)) (at : ℕ) (word : List ℕ) → slice_get words at ≡ Some word → drop at words ≡ word ∷ drop (at + 1) words
+pub at_place : (words : List (List ℕ)) (at : ℕ) (word : List ℕ) → slice_get words at ≡ Some word
+    → drop at words ≡ word ∷ drop (at + 1) words
 at_place words at word is =
     drop_more words at word (slice_get_within words at word is)
     ∙ ap (λ w. w ∷ drop (at + 1) words) (sym (unwrap_or-slice_get words at word) ∙ ap (λ o. unwrap_or o word) is)
@@ -619,12 +690,15 @@ pub no_steps_here : (words : List (List ℕ)) → words ≡ [] → None ≡ (ste
 no_steps_here words is = ap (λ w. (steps_read w).0) (sym is)
 
 pub other_here : (words rest : List (List ℕ)) (word : List ℕ) → words ≡ word ∷ rest → word ≢ codes "--steps" → None ≡ (steps_read words).0
-other_here words rest word is other = sym (ap (λ w. (steps_read w).0) is ∙ ap (λ s. s.0) (no_steps_behind word rest (differ word (codes "--steps") other)))
+other_here words rest word is other =
+    sym (ap (λ w. (steps_read w).0) is ∙ ap (λ s. s.0) (no_steps_behind word rest (differ word (codes "--steps") other)))
 
-pub steps_alone_here : (words rest : List (List ℕ)) (word : List ℕ) → words ≡ word ∷ rest → word ≡ codes "--steps" → rest ≡ [] → None ≡ (steps_read words).0
+pub steps_alone_here : (words rest : List (List ℕ)) (word : List ℕ) → words ≡ word ∷ rest → word ≡ codes "--steps" → rest ≡ []
+    → None ≡ (steps_read words).0
 steps_alone_here words rest word is named last = rw (is, named, last) refl
 
-pub steps_here : (words rest behind : List (List ℕ)) (word value : List ℕ) → words ≡ word ∷ rest → word ≡ codes "--steps" → rest ≡ value ∷ behind
+pub steps_here : (words rest behind : List (List ℕ)) (word value : List ℕ) → words ≡ word ∷ rest → word ≡ codes "--steps"
+    → rest ≡ value ∷ behind
     → number_of 1 most_steps value ≡ (steps_read words).0
 steps_here words rest behind word value is named stands = rw (is, named, stands) (go (number_of 1 most_steps value)) where
   go : (o : Option ℕ) → o ≡ (optional (codes "--steps" ∷ value ∷ behind) behind o).0
@@ -648,17 +722,21 @@ pub names_here : (words : List (List ℕ)) → ((next : List ℕ → List (List 
 names_here [] none next = refl
 names_here (file ∷ []) none next = refl
 names_here (file ∷ image ∷ rest) none next = go (is_name file) (none (λ name more. Some (Sites name))) where
-  go : (t : Bool) → cond t (Some (Sites file)) None ≡ None → cond (t && (is_name image && not (bytes_eq file image))) (next file image rest) None ≡ None
+  go : (t : Bool) → cond t (Some (Sites file)) None ≡ None
+      → cond (t && (is_name image && not (bytes_eq file image))) (next file image rest) None ≡ None
   go true e = absurd (cc)
   go false e = refl
 
-pub second_here : (words more : List (List ℕ)) (file : List ℕ) → words ≡ file ∷ more → ((next : List ℕ → List (List ℕ) → Option Command) → name_read next more ≡ None)
+pub second_here : (words more : List (List ℕ)) (file : List ℕ) → words ≡ file ∷ more
+    → ((next : List ℕ → List (List ℕ) → Option Command) → name_read next more ≡ None)
     → (next : List ℕ → List ℕ → List (List ℕ) → Option Command) → names_read next words ≡ None
 second_here words more file is none next = ap (names_read next) is ∙ second more none where
-  second : (more : List (List ℕ)) → ((next : List ℕ → List (List ℕ) → Option Command) → name_read next more ≡ None) → names_read next (file ∷ more) ≡ None
+  second : (more : List (List ℕ)) → ((next : List ℕ → List (List ℕ) → Option Command) → name_read next more ≡ None)
+      → names_read next (file ∷ more) ≡ None
   second [] none = refl
   second (image ∷ rest) none = go (is_name image) (is_name file) (none (λ name more. Some (Sites name))) where
-    go : (t u : Bool) → cond t (Some (Sites image)) None ≡ None → cond (u && (t && not (bytes_eq file image))) (next file image rest) None ≡ None
+    go : (t u : Bool) → cond t (Some (Sites image)) None ≡ None
+        → cond (u && (t && not (bytes_eq file image))) (next file image rest) None ≡ None
     go true u e = absurd (cc)
     go false true e = refl
     go false false e = refl
@@ -674,24 +752,28 @@ same_names words more rest file image is then same next =
       go true false v e = refl
       go true true false e = absurd (cc)
 
-pub two_names : (words more rest : List (List ℕ)) (file image : List ℕ) → words ≡ file ∷ more → more ≡ image ∷ rest → IsTrue (is_name file) → IsTrue (is_name image)
+pub two_names : (words more rest : List (List ℕ)) (file image : List ℕ) → words ≡ file ∷ more → more ≡ image ∷ rest
+    → IsTrue (is_name file) → IsTrue (is_name image)
     → file ≢ image → (next : List ℕ → List ℕ → List (List ℕ) → Option Command) → names_read next words ≡ next file image rest
 two_names words more rest file image is then one two other next =
     ap (names_read next) (is ∙ ap (λ m. file ∷ m) then) ∙ names_there next file image rest one two other
 
 -- arguments at their place
-pub args_here : (words rest : List (List ℕ)) (word : List ℕ) (made : Option (List (List ℕ)) → Command) → words ≡ word ∷ rest → word ≡ codes "--"
+pub args_here : (words rest : List (List ℕ)) (word : List ℕ) (made : Option (List (List ℕ)) → Command) → words ≡ word ∷ rest
+    → word ≡ codes "--"
     → true ≡ nat_le (arguments_size rest) most_arguments → args_read made words ≡ Some (made (Some rest))
 args_here words rest word made is named fit = rw (is, named, ← fit) refl
 
 pub args_over : (words rest : List (List ℕ)) (word : List ℕ) (made : Option (List (List ℕ)) → Command) → words ≡ word ∷ rest
     → false ≡ nat_le (arguments_size rest) most_arguments → args_read made words ≡ None
-args_over words rest word made is over = ap (args_read made) is ∙ go (bytes_eq word (codes "--")) (nat_le (arguments_size rest) most_arguments) (sym over) where
-  go : (t u : Bool) → u ≡ false → cond (t && u) (Some (made (Some rest))) None ≡ None
-  go true true e = absurd (cc)
-  go true false e = refl
-  go false u e = refl
+args_over words rest word made is over =
+    ap (args_read made) is ∙ go (bytes_eq word (codes "--")) (nat_le (arguments_size rest) most_arguments) (sym over) where
+      go : (t u : Bool) → u ≡ false → cond (t && u) (Some (made (Some rest))) None ≡ None
+      go true true e = absurd (cc)
+      go true false e = refl
+      go false u e = refl
 
-pub no_args_here : (words rest : List (List ℕ)) (word : List ℕ) (made : Option (List (List ℕ)) → Command) → words ≡ word ∷ rest → word ≢ codes "--"
+pub no_args_here : (words rest : List (List ℕ)) (word : List ℕ) (made : Option (List (List ℕ)) → Command) → words ≡ word ∷ rest
+    → word ≢ codes "--"
     → args_read made words ≡ None
 no_args_here words rest word made is other = rw (is, differ word (codes "--") other) refl

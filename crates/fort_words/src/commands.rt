@@ -3,7 +3,7 @@
 ghost use Rattle.std.specs.Prelude.{◌≡◌, [], None, Some, IsNone, IfSome, IfOk, drop, unwrap_or};
 ghost use Rattle.std.specs.Option.{option_map};
 ghost use Rattle.run_meaning.specs.Worlds.{ArgumentsFit};
-ghost use Rattle.fort_words.specs.Commands.{default_steps, exec_read, run_read, if_built, served, args_of};
+ghost use Rattle.fort_words.specs.Commands.{exec_read, run_read, if_built, served, args_of, steps_of};
 ghost use Rattle.fort_words.specs.Commands.{plain_args, plain_exec, plain_run, plain_command, CommandIsItsWords};
 
 use crate::parts::{args_at, name_at, names_at, steps_at, word_at};
@@ -44,11 +44,16 @@ pub enum Command<'a> {
     Run(RunCommand<'a>),
 }
 
-/// How many instructions a run may take, by the bound that is written.
-pub fn steps_or_default(steps: Option<u64>) -> u64
-    ensures { result ≡ unwrap_or steps default_steps }
-{
-    steps.unwrap_or(DEFAULT_STEPS)
+impl<'a> Command<'a> {
+    /// How many instructions the run may take: the bound that is written, or the one that stands where none is.
+    pub fn steps(&self) -> u64
+        ensures { result ≡ steps_of (plain_command self.now) }
+    {
+        match self {
+            Command::Exec(exec) => exec.steps.unwrap_or(DEFAULT_STEPS),
+            Command::Run(run) => run.steps.unwrap_or(DEFAULT_STEPS),
+        }
+    }
 }
 
 /// The program's arguments as a list of their own, empty where none are written.

@@ -7,6 +7,5 @@ mod parts;
 
 pub use commands::{
     Arguments, Command, ExecCommand, RunCommand, argument_list, command_is_its_words, read_command,
-    steps_or_default,
 };
 pub use outcomes::{Outcome, fault_line, status};

@@ -66,7 +66,7 @@ fn bound_at(words: &Words, at: usize) -> Option<u64>
     number_of(words.get(at + 1)?, 1, MOST_STEPS)
 }
 
-/// The same, and the place behind it.
+/// The bound that is written at a place, if any, and the place behind it.
 pub fn steps_at(words: &Words, at: usize) -> (Option<u64>, usize)
     requires { at < 2 ^ 32 }
     ensures steps { result.0 ≡ (steps_read (drop at words.now)).0 }
