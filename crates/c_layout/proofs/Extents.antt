@@ -1,5 +1,6 @@
 -- The steps of the code that gives layouts, with sizes that stop at one past the limit.
-use Rattle.std.proofs.Common.{◌≡◌, ℕ, ◌≤◌, Bool, true, List, ◌∷◌, refl, ap, Option, None, Some, IfSome, arith}
+use Rattle.std.proofs.Common.{◌≡◌, ℕ, ◌+◌, ◌-◌, ◌<◌, ◌≤◌, Bool, true, List, [], ◌∷◌, ◌++◌, length, get_or, take, drop, refl, sym, ap, Option, None, Some, IfSome, add-one, append_assoc, drop-cons, length-drop, arith}
+use Rattle.std.proofs.lemmas.List.{take_all}
 use Rattle.std.specs.Prelude.{option_and_then}
 use Rattle.std.specs.Option.{option_map}
 use Rattle.c_layout.specs.declared.types.Layout.{Layout}
@@ -7,17 +8,9 @@ use Rattle.c_layout.specs.declared.tags.Member.{Member}
 use Rattle.c_layout.specs.declared.tags.TagDef.{TagDef}
 use Rattle.c_layout.specs.declared.sizes.Placed.{Placed}
 use Rattle.c_layout.specs.Layouts.{repeated, member_layout, member_layouts, aggregate, definition_layout}
-use Rattle.c_layout.specs.Capped.{capped, placed, placed_behind, with_member, aggregate_of}
+use Rattle.c_layout.specs.Capped.{IsCut, capped, placed, placed_behind, with_member, offset_in, offsets_behind, aggregate_of}
 use Rattle.c_layout.proofs.Capping.{IsFair, AreFair, repeated-capped, placed_behind-cons, greatest_fair, aggregate_cut}
 use Rattle.c_layout.proofs.Fair.{AllFair, member_fair, members_fair}
-
--- members so far in numbers that have stopped
-pub record IsCut (p : Placed) : Type 0 where
-  pub last : p.last ≤ 4194305
-  pub end : p.end ≤ 4194305
-  pub size : p.size ≤ 4194305
-  pub positive : 1 ≤ p.align
-  pub small : p.align ≤ 8
 
 pub repeated_extent : (n : ℕ) (o : Option Layout) (element : Layout) → option_map capped o ≡ Some element →
     Some (capped (repeated n element)) ≡ option_map capped (option_map (repeated n) o)
@@ -26,19 +19,54 @@ repeated_extent n (Some l) element e =
     let same : element ≡ capped l = cc in
     let r = repeated-capped n l in cc
 
-placed_next : (p : Placed) (o : Option Layout) (ls : Option (List Layout)) (l : Layout) → IfSome ls AreFair → option_map capped o ≡ Some l →
-    option_map (placed_behind p) (option_and_then (λ x. option_map (λ xs. x ∷ xs) ls) o) ≡ option_map (placed_behind (with_member p l)) ls
-placed_next p None ls l f e = cc
-placed_next p (Some x) None l f e = refl
-placed_next p (Some x) (Some ls) l f e =
-    let same : capped x ≡ l = cc in
+placed_next : (p : Placed) (o : Option Layout) (ls : Option (List Layout)) (q : Placed) → IfSome ls AreFair →
+    Some q ≡ option_map (λ l. with_member p (capped l)) o →
+    option_map (placed_behind p) (option_and_then (λ x. option_map (λ xs. x ∷ xs) ls) o) ≡ option_map (placed_behind q) ls
+placed_next p None ls q f e = cc
+placed_next p (Some x) None q f e = refl
+placed_next p (Some x) (Some ls) q f e =
+    let same : q ≡ with_member p (capped x) = cc in
     let r = placed_behind-cons p x ls f in cc
 
 -- a member placed before the others
-pub placed_one : (f : ℕ → Option Layout) → AllFair f → (p : Placed) (m : Member) (ms : List Member) (l : Layout) →
-    option_map capped (member_layout f m ms) ≡ Some l →
-    option_map (placed_behind p) (member_layouts f (m ∷ ms)) ≡ option_map (placed_behind (with_member p l)) (member_layouts f ms)
-placed_one f h p m ms l e = placed_next p (member_layout f m ms) (member_layouts f ms) l (members_fair f h ms) e
+pub placed_one : (f : ℕ → Option Layout) → AllFair f → (p : Placed) (m : Member) (ms : List Member) (q : Placed) →
+    Some q ≡ option_map (λ l. with_member p (capped l)) (member_layout f m ms) →
+    option_map (placed_behind p) (member_layouts f (m ∷ ms)) ≡ option_map (placed_behind q) (member_layouts f ms)
+placed_one f h p m ms q e = placed_next p (member_layout f m ms) (member_layouts f ms) q (members_fair f h ms) e
+
+offsets_next : (u : Bool) (p : Placed) (os : List ℕ) (o : Option Layout) (ls : Option (List Layout)) (q : Placed) →
+    Some q ≡ option_map (λ l. with_member p (capped l)) o →
+    option_map (λ more. os ++ more) (option_map (offsets_behind u p) (option_and_then (λ x. option_map (λ xs. x ∷ xs) ls) o)) ≡
+    option_map (λ more. (os ++ offset_in u q ∷ []) ++ more) (option_map (offsets_behind u q) ls)
+offsets_next u p os None ls q e = cc
+offsets_next u p os (Some x) None q e = refl
+offsets_next u p os (Some x) (Some ls) q e =
+    let same : q ≡ with_member p (capped x) = cc in
+    rw same (ap Some (sym (append_assoc os (offset_in u (with_member p (capped x)) ∷ []) (offsets_behind u (with_member p (capped x)) ls))))
+
+-- where a member stands, before the others
+pub offsets_one : (f : ℕ → Option Layout) (u : Bool) (p : Placed) (os : List ℕ) (m : Member) (ms : List Member) (q : Placed) →
+    Some q ≡ option_map (λ l. with_member p (capped l)) (member_layout f m ms) →
+    option_map (λ more. os ++ more) (option_map (offsets_behind u p) (member_layouts f (m ∷ ms))) ≡
+    option_map (λ more. (os ++ offset_in u q ∷ []) ++ more) (option_map (offsets_behind u q) (member_layouts f ms))
+offsets_one f u p os m ms q e = offsets_next u p os (member_layout f m ms) (member_layouts f ms) q e
+
+-- a list from one of its elements on
+pub from_here : {A : Type 0} (xs : List A) (i : ℕ) (x : A) → i < length xs → x ≡ get_or xs i x → drop i xs ≡ x ∷ drop (i + 1) xs
+from_here xs i x inside found = rw (add-one, drop-cons xs i x) (cc)
+
+pub whole_rest : {A : Type 0} (xs : List A) (i : ℕ) → i < length xs → take (length xs - (i + 1)) (drop (i + 1) xs) ≡ drop (i + 1) xs
+whole_rest xs i inside = take_all (length xs - (i + 1)) (drop (i + 1) xs) (rw length-drop (omega arith))
+
+-- placing one member
+pub placed_with : (p : Placed) (o : Option Layout) (l : Layout) → option_map capped o ≡ Some l →
+    Some (with_member p l) ≡ option_map (λ x. with_member p (capped x)) o
+placed_with p None l e = cc
+placed_with p (Some x) l e = let same : l ≡ capped x = cc in ap (λ y. Some (with_member p y)) same
+
+pub not_placed_with : (p : Placed) (o : Option Layout) → option_map capped o ≡ None → None ≡ option_map (λ x. with_member p (capped x)) o
+not_placed_with p None e = refl
+not_placed_with p (Some x) e = cc
 
 placed_not : (p : Placed) (o : Option Layout) (ls : Option (List Layout)) → option_map capped o ≡ None →
     option_map (placed_behind p) (option_and_then (λ x. option_map (λ xs. x ∷ xs) ls) o) ≡ None

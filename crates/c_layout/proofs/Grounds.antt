@@ -39,7 +39,7 @@ module _ (f g : ℕ → Option Layout) (keeps : Keeps f g) where
   member_keeps m [] = last_of_keeps m.ctype (out-CType m.ctype)
   member_keeps m (n ∷ ms) = type_keeps m.ctype
 
-  members_keep : (ms : List Member) → Goes (member_layouts f ms) (member_layouts g ms)
+  pub members_keep : (ms : List Member) → Goes (member_layouts f ms) (member_layouts g ms)
   members_keep [] = λ x e. e
   members_keep (m ∷ ms) = goes_then _ _ _ _ (member_keeps m ms) (λ l. goes_map (λ ls. l ∷ ls) _ _ (members_keep ms))
 
@@ -123,7 +123,7 @@ module _ (xs ys : List TagDef) (t : ℕ) (d : TagDef) (at : slice_get ys t ≡ S
     | inr p ↦ others k p.1 ∙ e
   ]
 
-  keeps : Keeps (tag_layout xs) (tag_layout ys)
+  pub keeps : Keeps (tag_layout xs) (tag_layout ys)
   keeps = tags_keep xs ys (omega (arith, count)) extends
 
   same_by : (k : ℕ) → k ≢ t → (o : Option TagDef) → slice_get xs k ≡ o → ((old : TagDef) → o ≡ Some old → (c : Bool) → old.complete ≡ c → tag_layout ys k ≡ tag_layout xs k) →

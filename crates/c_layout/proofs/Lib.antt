@@ -4,6 +4,7 @@ pub mod Edits
 pub mod Extents
 pub mod Fair
 pub mod Grounds
+pub mod KeptOffsets
 pub mod LaidOut
 pub mod Offsets
 pub mod Placements

@@ -28,7 +28,7 @@ behind f None y e = cc
 behind f (Some x) y e = (x, refl, cc)
 
 -- what is first and what follows, where a list of layouts is there
-first_of : (o : Option Layout) (p : Option (List Layout)) (ls : List Layout) → option_and_then (λ l. option_map (λ ls. l ∷ ls) p) o ≡ Some ls →
+pub first_of : (o : Option Layout) (p : Option (List Layout)) (ls : List Layout) → option_and_then (λ l. option_map (λ ls. l ∷ ls) p) o ≡ Some ls →
     (l : Layout) × (others : List Layout) × (o ≡ Some l) × (p ≡ Some others) × (l ∷ others ≡ ls)
 first_of None p ls e = cc
 first_of (Some l) None ls e = cc
@@ -63,7 +63,7 @@ module _ (f : ℕ → Option Layout) where
   joined m ms l ls e h = rw (e, h) refl
 
   -- the layouts of the members up to one
-  up_to : (ms : List Member) (ls : List Layout) (k : ℕ) (x : Layout) → member_layouts f ms ≡ Some ls → slice_get ls k ≡ Some x →
+  pub up_to : (ms : List Member) (ls : List Layout) (k : ℕ) (x : Layout) → member_layouts f ms ≡ Some ls → slice_get ls k ≡ Some x →
       member_layouts f (take (suc k) ms) ≡ Some (take (suc k) ls)
   up_to [] ls k x e at = let none : ls ≡ [] = cc in absurd (let h : slice_get [] k ≡ Some x = subst (λ z. slice_get z k ≡ Some x) none at in cc)
   up_to (m ∷ ms) ls zero x e at =
@@ -75,7 +75,7 @@ module _ (f : ℕ → Option Layout) where
       subst (λ z. member_layouts f (m ∷ take (suc k) ms) ≡ Some (take (suc (suc k)) z)) r.4
       (joined m (take (suc k) ms) r.0 (take (suc k) r.1) (shorter m ms k r.0 x r.1 r.3 there r.2) (up_to ms r.1 k x r.3 there))
 
-  within_members : (ms : List Member) (ls : List Layout) (k : ℕ) (x : Layout) → member_layouts f ms ≡ Some ls → slice_get ls k ≡ Some x → k < length ms
+  pub within_members : (ms : List Member) (ls : List Layout) (k : ℕ) (x : Layout) → member_layouts f ms ≡ Some ls → slice_get ls k ≡ Some x → k < length ms
   within_members [] ls k x e at = let none : ls ≡ [] = cc in absurd (let h : slice_get [] k ≡ Some x = subst (λ z. slice_get z k ≡ Some x) none at in cc)
   within_members (m ∷ ms) ls zero x e at = omega arith
   within_members (m ∷ ms) ls (suc k) x e at =
@@ -98,7 +98,7 @@ front (l ∷ ls) j zero m low at = absurd (omega arith)
 front (l ∷ ls) zero (suc k) m low at = at
 front (l ∷ ls) (suc j) (suc k) m low at = front ls j k m (omega arith) at
 
-fair_front : (ls : List Layout) (k : ℕ) → AreFair ls → AreFair (take k ls)
+pub fair_front : (ls : List Layout) (k : ℕ) → AreFair ls → AreFair (take k ls)
 fair_front ls zero h = none
 fair_front [] (suc k) h = none
 fair_front (l ∷ ls) (suc k) (some f fs) = some f (fair_front ls k fs)
@@ -148,7 +148,7 @@ offset_is tags tag def ls there e k m at low =
     let up : member_layouts (tag_layout tags) (take (k + 1) def.members) ≡ Some (take (k + 1) ls) = rw (add-one k) (up_to (tag_layout tags) def.members ls k m e at) in
     rw (there, lt-ltb k (length def.members) (within_members (tag_layout tags) def.members ls k m e at), up) (limited (place_among def.is_union ls k) low)
 
-fair_list : (o : Option (List Layout)) (ls : List Layout) → IfSome o AreFair → o ≡ Some ls → AreFair ls
+pub fair_list : (o : Option (List Layout)) (ls : List Layout) → IfSome o AreFair → o ≡ Some ls → AreFair ls
 fair_list o ls h e = subst (λ p. IfSome p AreFair) e h
 
 pub places_offsets : PlacesOffsets

@@ -35,22 +35,9 @@ pub fn declared_layout_of(tags: &Tags, ctype: &CType) -> Result<Layout, LayoutFa
 }
 
 /// Where a member stands in a structure or union, none where there is no such member, where it or one before it has
-/// no size, or where its place is past the limit.
+/// no size, or where its place is past the limit. In a complete one the place is kept.
 pub fn offset_of(tags: &Tags, tag: u32, member: usize) -> Option<u64>
     ensures { result ≡ offset tags.now tag member }
 {
-    let def = tags.get(tag)?;
-    let members = def.members.as_slice();
-    if member >= members.len() {
-        return None;
-    }
-    let placed = tags.place(&members[..=member])?;
-    if def.is_union {
-        return Some(0);
-    }
-    if placed.last <= LARGEST_TYPE {
-        Some(placed.last)
-    } else {
-        None
-    }
+    tags.offset(tag, member)
 }

@@ -2,8 +2,8 @@
 
 ghost use Rattle.std.specs.Prelude.{◌≡◌, ◌+◌, ◌^◌, ◌<◌, ◌≤◌};
 ghost use Rattle.fc_base.specs.Widths.{width_bytes};
-ghost use Rattle.c_layout.specs.Capped.{aggregate_of, capped, capped_size, with_member};
-ghost use Rattle.c_layout.specs.Layouts.{aligned, flexible, repeated, scalar};
+ghost use Rattle.c_layout.specs.Capped.{aggregate_of, capped, capped_size, offset_in, with_member};
+ghost use Rattle.c_layout.specs.Layouts.{aligned, flexible, repeated, scalar, within_limit};
 
 use crate::types::Layout;
 use fc_base::Width;
@@ -16,6 +16,17 @@ fn cut(size: u64) -> u64
     ensures { result ≡ capped_size size }
 {
     size.min(LARGEST_TYPE + 1)
+}
+
+/// A place that was cut at one past the limit, none where it is past it.
+pub fn within_limit(place: u64) -> Option<u64>
+    ensures { result ≡ within_limit place }
+{
+    if place <= LARGEST_TYPE {
+        Some(place)
+    } else {
+        None
+    }
 }
 
 /// The next multiple of the alignment, from a place on.
@@ -105,6 +116,13 @@ impl Placed {
             size: cut(self.size.max(layout.size)),
             align: self.align.max(layout.align),
         }
+    }
+
+    /// Where the last member stands: in a union at its start.
+    pub fn offset(self, is_union: bool) -> u64
+        ensures { result ≡ offset_in is_union self }
+    {
+        if is_union { 0 } else { self.last }
     }
 
     /// The structure or union of the members.

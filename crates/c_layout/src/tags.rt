@@ -1,14 +1,15 @@
 //! The structures and unions of a file by number, with the layouts of those that are complete.
 
-ghost use Rattle.std.specs.Prelude.{◌≡◌, false, List, [], ◌∷◌, ◌++◌, length, slice_get, slice_set, ◌↔◌, IfOk, OnErr, IsSome, IsSomeAnd, IsTrue};
+ghost use Rattle.std.specs.Prelude.{◌≡◌, false, List, [], ◌∷◌, ◌++◌, length, slice_get, slice_set, ◌↔◌, IfOk, OnErr, Some, IfSome, IsSome, IsSomeAnd, IsTrue};
 ghost use Rattle.std.specs.Option.{option_copied, option_map};
-ghost use Rattle.c_layout.specs.Layouts.{HaveSizes, definition_layout, last_layout, layout, member_layout, member_layouts, tag_layout};
+ghost use Rattle.c_layout.specs.Layouts.{HaveSizes, definition_layout, last_layout, layout, member_layout, member_layouts, member_offset, offset, tag_layout};
 ghost use Rattle.c_layout.specs.Laws.{HasLayouts};
-ghost use Rattle.c_layout.specs.Capped.{capped, placed};
+ghost use Rattle.c_layout.specs.Capped.{IsCut, capped, offsets_of, placed, with_member};
+ghost use Rattle.c_layout.specs.Entries.{AreOffsets};
 ghost use Rattle.c_layout.specs.Depths.{capped_depth, capped_depths, definition_depth, greatest_depth, tag_depth, type_depths};
 
 use crate::depths::{Depth, deeper};
-use crate::sizes::{Placed, array, integer, open_array, pointer};
+use crate::sizes::{Placed, array, integer, open_array, pointer, within_limit};
 use crate::types::{CType, Layout};
 use fc_base::{NoMemory, Text};
 use sqlite_items::Items;
@@ -32,18 +33,21 @@ pub struct TagDef {
     pub complete: bool,
 }
 
-/// A definition with its layout where it is complete, the size cut at one past the limit, and its depth, cut likewise.
+/// A definition with its layout where it is complete, the size cut at one past the limit, and its depth, cut likewise; and where
+/// its members stand, cut likewise, if it is complete and memory was there for them.
 #[derive(Drop)]
 struct Entry {
     def: TagDef,
     layout: Option<Layout>,
     depth: u32,
+    offsets: Option<Items<u64>>,
 }
 
 /// The structures and unions of a file, seen as the list of their definitions. No complete one contains itself.
 #[derive(Drop)]
 pub struct Tags {
     entries: Vec<Entry>,
+    alloc: Global,
 }
 
 impl Model for Tags {
@@ -68,6 +72,7 @@ impl Tags {
     {
         Tags {
             entries: Vec::new(alloc),
+            alloc,
         }
     }
 
@@ -95,7 +100,13 @@ impl Tags {
         };
         let layout = self.definition_extent(&def);
         let depth = self.definition_depth(&def);
-        self.entries.push(Entry { def, layout, depth })?;
+        let offsets = self.definition_offsets(&def);
+        self.entries.push(Entry {
+            def,
+            layout,
+            depth,
+            offsets,
+        })?;
         Ok(tag)
     }
 
@@ -107,7 +118,13 @@ impl Tags {
     {
         let layout = self.definition_extent(&def);
         let depth = self.definition_depth(&def);
-        self.entries[tag as usize] = Entry { def, layout, depth };
+        let offsets = self.definition_offsets(&def);
+        self.entries[tag as usize] = Entry {
+            def,
+            layout,
+            depth,
+            offsets,
+        };
     }
 
     /// Whether each member has a size, or for a last flexible array its element: what a complete definition wants.
@@ -172,16 +189,86 @@ impl Tags {
         }
     }
 
+    /// A member placed behind those so far and before these.
+    fn place_one(&self, placed: Placed, member: &Member, behind: &[Member]) -> Option<Placed>
+        requires { IsCut placed }
+        ensures next { result ≡ option_map (λ l. with_member placed (capped l)) (member_layout (tag_layout self.now) member.now behind.now) }
+        ensures cut { IfSome result IsCut }
+    {
+        let layout = self.member_extent(member, behind)?;
+        Some(placed.with(layout))
+    }
+
     /// Places members one behind another, none where one of them has no size.
     pub(crate) fn place(&self, members: &[Member]) -> Option<Placed>
         ensures { result ≡ option_map placed (member_layouts (tag_layout self.now) members.now) }
     {
         let mut placed = Placed::NOTHING;
         for index in 0..members.len() {
-            let layout = self.member_extent(&members[index], &members[index + 1..])?;
-            placed = placed.with(layout);
+            let next = self.place_one(placed, &members[index], &members[index + 1..])?;
+            placed = next;
         }
         Some(placed)
+    }
+
+    /// Where each member stands, none where one of them has no size, or for want of memory.
+    fn offsets(&self, is_union: bool, members: &[Member]) -> Option<Items<u64>>
+        ensures { IfSome result (λ list. option_map (offsets_of is_union) (member_layouts (tag_layout self.now) members.now) ≡ Some list) }
+    {
+        let mut offsets = Items::new(self.alloc);
+        let mut placed = Placed::NOTHING;
+        for index in 0..members.len() {
+            let next = self.place_one(placed, &members[index], &members[index + 1..])?;
+            offsets.push(next.offset(is_union)).ok()?;
+            placed = next;
+        }
+        Some(offsets)
+    }
+
+    /// Where the members of a complete definition stand, none for want of memory.
+    fn definition_offsets(&self, def: &TagDef) -> Option<Items<u64>>
+        ensures { IfSome result (AreOffsets self.now def.now) }
+    {
+        if !def.complete {
+            return None;
+        }
+        self.offsets(def.is_union, def.members.as_slice())
+    }
+
+    /// Where a member of a definition stands, by the members up to it.
+    fn member_offset(&self, def: &TagDef, member: usize) -> Option<u64>
+        ensures { result ≡ member_offset self.now member def.now }
+    {
+        let members = def.members.as_slice();
+        if member >= members.len() {
+            return None;
+        }
+        let placed = self.place(&members[..=member])?;
+        within_limit(placed.offset(def.is_union))
+    }
+
+    /// Where a member of what is kept of a tag stands.
+    fn kept_offset(&self, entry: &Entry, member: usize) -> Option<u64>
+        requires { IfSome entry.now.offsets (AreOffsets self.now entry.now.def) }
+        ensures { result ≡ member_offset self.now member entry.now.def }
+    {
+        match &entry.offsets {
+            Some(offsets) => match offsets.get(member) {
+                Some(offset) => within_limit(*offset),
+                None => None,
+            },
+            None => self.member_offset(&entry.def, member),
+        }
+    }
+
+    /// Where a member of a tag stands.
+    pub(crate) fn offset(&self, tag: u32, member: usize) -> Option<u64>
+        ensures { result ≡ offset self.now tag member }
+    {
+        match self.entries.get(tag as usize) {
+            Some(entry) => self.kept_offset(entry, member),
+            None => None,
+        }
     }
 
     /// The layout of a complete definition.

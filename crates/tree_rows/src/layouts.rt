@@ -432,3 +432,31 @@ fn deep_types_are_shared(rt: HostRuntime) -> Result<(), NoMemory> {
     assert!(rt; is_shared);
     Ok(())
 }
+
+/// A structure of so many members of type int.
+fn wide(alloc: Global, count: u32) -> Result<TagDef, NoMemory> {
+    let mut members = Items::new(alloc);
+    for _ in 0..count {
+        members.push(member(alloc, (INT, &[]))?)?;
+    }
+    let name = Text::from_bytes(alloc, b"V")?;
+    Ok(TagDef {
+        name,
+        is_union: false,
+        members,
+        complete: true,
+    })
+}
+
+/// A structure of 30,000 members, each of which is asked for its place: no call goes along those before it.
+#[test]
+fn many_members(rt: HostRuntime) -> Result<(), NoMemory> {
+    let alloc = rt.alloc();
+    let mut tags = Tags::new(alloc);
+    let tag = add(&rt, &mut tags, wide(alloc, 30_000)?)?;
+    for member in 0..30_000_u32 {
+        let offset = u64::from(member) * 4;
+        assert_offset(&rt, &tags, tag, member as usize, Some(offset));
+    }
+    Ok(())
+}

@@ -1,8 +1,7 @@
 use Rattle.std.proofs.Common.{◌≡◌, drop}
 use Rattle.std.specs.Option.{option_map}
 use Rattle.c_layout.specs.Layouts.{member_layouts, tag_layout}
-use Rattle.c_layout.specs.Capped.{placed, placed_behind}
-use Rattle.c_layout.proofs.Extents.{IsCut}
+use Rattle.c_layout.specs.Capped.{IsCut, placed, placed_behind}
 use Rattle.c_layout.proofs.tags.Tags.place.Given as goal
 
 abbrev pub invariant-loop-index : goal.invariant-loop-index
