@@ -8,6 +8,8 @@ use Rattle.c_layout.specs.declared.types.CType.{CType, out-CType}
 use Rattle.c_layout.specs.declared.types.CType.TheOpen.{CType-F}
 use Rattle.c_layout.specs.declared.types.CType.TheVariants.{Int}
 use Rattle.c_layout.specs.Types.{Layer, promoted}
+use Rattle.c_tree.specs.declared.conversions.Rank.{Rank}
+use Rattle.c_tree.specs.declared.conversions.Rank.TheVariants as ranks
 
 abbrev number_layer : Layer → IntType
 number_layer (CType-F.Int width signed plain_char long_long) = record { width = width; signed = signed }
@@ -17,35 +19,30 @@ number_layer _ = record { width = W8; signed = false }
 abbrev pub number_type : CType → IntType
 number_type t = number_layer (out-CType t)
 
--- the ranks of promoted types, lowest first (6.3.1.1p1)
-pub data Rank : Type 0 where
-  of_int : Rank
-  of_long : Rank
-  of_long_long : Rank
-
+-- the rank of an integer type once it is promoted (6.3.1.1p1)
 abbrev rank_layer : Layer → Rank
-rank_layer (CType-F.Int W8 signed plain_char true) = of_long_long
-rank_layer (CType-F.Int W8 signed plain_char false) = of_long
-rank_layer _ = of_int
+rank_layer (CType-F.Int W8 signed plain_char true) = ranks.LongLong
+rank_layer (CType-F.Int W8 signed plain_char false) = ranks.Long
+rank_layer _ = ranks.Int
 
 abbrev pub rank : CType → Rank
 rank t = rank_layer (out-CType t)
 
 abbrev pub rank_place : Rank → ℕ
-rank_place of_int = 0
-rank_place of_long = 1
-rank_place of_long_long = 2
+rank_place ranks.Int = 0
+rank_place ranks.Long = 1
+rank_place ranks.LongLong = 2
 
 abbrev pub rank_width : Rank → Width
-rank_width of_int = W4
-rank_width of_long = W8
-rank_width of_long_long = W8
+rank_width ranks.Int = W4
+rank_width ranks.Long = W8
+rank_width ranks.LongLong = W8
 
 -- the integer type of a rank, signed or not
 abbrev pub ranked : Rank → Bool → CType
-ranked of_int signed = Int W4 signed false false
-ranked of_long signed = Int W8 signed false false
-ranked of_long_long signed = Int W8 signed false true
+ranked ranks.Int signed = Int W4 signed false false
+ranked ranks.Long signed = Int W8 signed false false
+ranked ranks.LongLong signed = Int W8 signed false true
 
 abbrev pub higher : Rank → Rank → Rank
 higher a b = if nat_lt (rank_place a) (rank_place b) then b else a

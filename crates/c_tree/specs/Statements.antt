@@ -33,6 +33,10 @@ abbrev pub is_declaration : TypedStmt-F TypedStmt → Bool
 is_declaration (TypedStmt-F.Declare d) = true
 is_declaration _ = false
 
+abbrev pub is_block : TypedStmt-F TypedStmt → Bool
+is_block (TypedStmt-F.Block items place) = true
+is_block _ = false
+
 -- an item of a block: no label
 abbrev pub IsItem : TypedStmt → Type 0
 IsItem s = is_label (out-TypedStmt s) ≡ false

@@ -101,7 +101,8 @@ fn sized(tags: &Tags, ctype: &CType) -> Constant
     }
 }
 
-fn evaluated(tags: &Tags, expr: &TypedExpr) -> Constant
+/// What an expression is as an integer constant expression.
+pub fn evaluated(tags: &Tags, expr: &TypedExpr) -> Constant
     ensures { result ≡ constant tags.now expr.now }
 {
     let Some(of) = int_type(&expr.ctype) else {

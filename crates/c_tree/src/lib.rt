@@ -2,6 +2,7 @@
 #![tactic(auto)]
 
 mod constants;
+mod conversions;
 mod externals;
 mod laws;
 mod limits;
@@ -13,7 +14,8 @@ mod statements;
 mod typed;
 mod weights;
 
-pub use constants::{Constant, constant_of};
+pub use constants::{Constant, constant_of, evaluated};
+pub use conversions::{Rank, common, number_type, rank_of, ranked};
 pub use externals::{External, FileTree};
 pub use laws::counts_law;
 pub use limits::{HEIGHT_LIMIT, TYPED_HEIGHT_LIMIT};
@@ -22,7 +24,7 @@ pub use nodes::{
     MemberDecl, Param, Params, PointerWord, Spec, TypeName,
 };
 pub use operators::{AssignOp, BinaryOp, PostfixOp, PrefixOp, int_type};
-pub use paths::{first_place, is_trailing};
+pub use paths::{first_place, is_place, is_trailing, is_trailing_member};
 pub use programs::{Counts, DataDef, FnDef, Link, LocalDef, TypedTree};
 pub use statements::{ForHead, Init, InitDeclarator, Stmt};
 pub use typed::{Callee, TypedDeclare, TypedExpr, TypedForHead, TypedInit, TypedKind, TypedStmt};

@@ -1,16 +1,29 @@
-//! Which arrays are trailing, and where an expression begins in the text.
+//! Which expressions designate places, which arrays are trailing, and where an expression begins in the text.
 
 ghost use Rattle.std.specs.Prelude.{◌≡◌, List};
 ghost use Rattle.c_layout.specs.declared.tags.TagDef.{TagDef};
 ghost use Rattle.c_layout.specs.declared.types.CType.{out-CType};
 ghost use Rattle.c_tree.specs.FirstTokens.{first_place};
 ghost use Rattle.c_tree.specs.Paths.{is_last, is_last_behind, is_trailing, step};
+ghost use Rattle.c_tree.specs.Typed.{is_place};
 
 use crate::operators::PrefixOp;
 use crate::programs::TypedTree;
 use crate::typed::{TypedExpr, TypedKind};
 use c_layout::{CType, Tags, is_array, is_pointer};
 use fc_base::Place;
+
+/// Whether the expression designates a place (C11 6.3.2.1p1). What `?:`, a comma or an assignment gives is none.
+pub fn is_place(expr: &TypedExpr) -> bool
+    ensures { result ≡ is_place expr.now }
+{
+    match &expr.kind {
+        TypedKind::Local(_) | TypedKind::Object(_) | TypedKind::Index { .. } => true,
+        TypedKind::Prefix { op, .. } => *op == PrefixOp::Indirection,
+        TypedKind::Member { base, arrow, .. } => *arrow || is_place(base.get()),
+        _ => false,
+    }
+}
 
 /// Whether the member is the last of a structure, or one of a union.
 fn is_last(tags: &Tags, ctype: &CType, member: u32) -> bool
@@ -79,8 +92,15 @@ fn trails(tags: &Tags, expr: &TypedExpr) -> bool
 pub fn is_trailing(tree: &TypedTree, node: &TypedExpr) -> bool
     ensures { result ≡ is_trailing tree.now.tags node.now }
 {
+    is_trailing_member(&tree.tags, node)
+}
+
+/// The same by the structures and unions alone.
+pub fn is_trailing_member(tags: &Tags, node: &TypedExpr) -> bool
+    ensures { result ≡ is_trailing tags.now node.now }
+{
     match &node.kind {
-        TypedKind::Member { .. } => is_array(&node.ctype) && trails(&tree.tags, node),
+        TypedKind::Member { .. } => is_array(&node.ctype) && trails(tags, node),
         _ => false,
     }
 }
