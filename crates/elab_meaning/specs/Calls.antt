@@ -35,29 +35,29 @@ pub record KindPart : Type 0 where
   pub name : Option Name
   pub names : Names
 
-abbrev optional : {A : Type 0} → (A → Names) → Option A → Names
+abbrev pub optional : {A : Type 0} → (A → Names) → Option A → Names
 optional f x = option_map_or f x []
 
-abbrev all : List Part → Names
+abbrev pub all : List Part → Names
 all = flat_map (λ p. p.names)
 
-abbrev lists : List Names → Names
+abbrev pub lists : List Names → Names
 lists = flat_map (λ ns. ns)
 
-abbrev called : Part → Names
+abbrev pub called : Part → Names
 called p = option_map_or (λ name. record { name = name; place = p.place } ∷ []) p.name []
 
-abbrev no_name : Names → KindPart
+abbrev pub no_name : Names → KindPart
 no_name names = record { name = None; names = names }
 
-abbrev declarator_layer : Declarator-F Names KindPart Names Names Names Part Names Names Names → Names
+abbrev pub declarator_layer : Declarator-F Names KindPart Names Names Names Part Names Names Names → Names
 declarator_layer (Declarator-F.Pointer words of place) = of
 declarator_layer (Declarator-F.«Declarator::Name» name place) = []
 declarator_layer (Declarator-F.Omitted place) = []
 declarator_layer (Declarator-F.Array of bound place) = of ++ optional (λ p. p.names) bound
 declarator_layer (Declarator-F.Function of params place) = of ++ params
 
-abbrev kind_layer : ExprKind-F Names KindPart Names Names Names Part Names Names Names → KindPart
+abbrev pub kind_layer : ExprKind-F Names KindPart Names Names Names Part Names Names Names → KindPart
 kind_layer (ExprKind-F.«ExprKind::Name» name) = record { name = Some name; names = [] }
 kind_layer (ExprKind-F.Number value kind) = no_name []
 kind_layer (ExprKind-F.CharConst byte) = no_name []
@@ -76,59 +76,59 @@ kind_layer (ExprKind-F.Call callee args) = no_name (called callee ++ callee.name
 kind_layer (ExprKind-F.Member base arrow name) = no_name base.names
 kind_layer (ExprKind-F.SizeCall pointer mode) = no_name (pointer.names ++ mode.names)
 
-abbrev params_layer : Params-F Names KindPart Names Names Names Part Names Names Names → Names
+abbrev pub params_layer : Params-F Names KindPart Names Names Names Part Names Names Names → Names
 params_layer Params-F.Empty = []
 params_layer Params-F.Void = []
 params_layer (Params-F.List params) = lists params
 
-abbrev spec_layer : Spec-F Names KindPart Names Names Names Part Names Names Names → Names
+abbrev pub spec_layer : Spec-F Names KindPart Names Names Names Part Names Names Names → Names
 spec_layer (Spec-F.Tagged aggregate tag members place) = optional lists members
 spec_layer (Spec-F.Untagged aggregate members place) = lists members
 spec_layer (Spec-F.Enum tag enumerators place) = lists enumerators
 spec_layer _ = []
 
-abbrev enumerator_layer : Enumerator-F Names KindPart Names Names Names Part Names Names Names → Names
+abbrev pub enumerator_layer : Enumerator-F Names KindPart Names Names Names Part Names Names Names → Names
 enumerator_layer e = optional (λ p. p.names) e.value
 
-abbrev expr_layer : Expr-F Names KindPart Names Names Names Part Names Names Names → Part
+abbrev pub expr_layer : Expr-F Names KindPart Names Names Names Part Names Names Names → Part
 expr_layer e = record { name = e.kind.name; place = e.place; names = e.kind.names }
 
-abbrev member_layer : MemberDecl-F Names KindPart Names Names Names Part Names Names Names → Names
+abbrev pub member_layer : MemberDecl-F Names KindPart Names Names Names Part Names Names Names → Names
 member_layer m = lists m.specs ++ lists m.declarators
 
-abbrev param_layer : Param-F Names KindPart Names Names Names Part Names Names Names → Names
+abbrev pub param_layer : Param-F Names KindPart Names Names Names Part Names Names Names → Names
 param_layer p = lists p.specs ++ p.declarator
 
-abbrev type_name_layer : TypeName-F Names KindPart Names Names Names Part Names Names Names → Names
+abbrev pub type_name_layer : TypeName-F Names KindPart Names Names Names Part Names Names Names → Names
 type_name_layer t = lists t.specs ++ t.declarator
 
-abbrev expr_calls : Expr → Names
+abbrev pub expr_calls : Expr → Names
 expr_calls x = (fold-Expr Names KindPart Names Names Names Part Names Names Names
     declarator_layer kind_layer params_layer spec_layer enumerator_layer expr_layer member_layer param_layer type_name_layer x).names
 
-abbrev declarator_calls : Declarator → Names
+abbrev pub declarator_calls : Declarator → Names
 declarator_calls = fold-Declarator Names KindPart Names Names Names Part Names Names Names
     declarator_layer kind_layer params_layer spec_layer enumerator_layer expr_layer member_layer param_layer type_name_layer
 
-abbrev spec_calls : Spec → Names
+abbrev pub spec_calls : Spec → Names
 spec_calls = fold-Spec Names KindPart Names Names Names Part Names Names Names
     declarator_layer kind_layer params_layer spec_layer enumerator_layer expr_layer member_layer param_layer type_name_layer
 
-abbrev init_layer : Init-F Names → Names
+abbrev pub init_layer : Init-F Names → Names
 init_layer (Init-F.Expr x) = expr_calls x
 init_layer (Init-F.List items place) = lists items
 
-abbrev init_declarator_calls : InitDeclarator → Names
+abbrev pub init_declarator_calls : InitDeclarator → Names
 init_declarator_calls d = declarator_calls d.declarator ++ optional (fold-Init Names init_layer) d.init
 
-abbrev declaration_calls : List Spec → List InitDeclarator → Names
+abbrev pub declaration_calls : List Spec → List InitDeclarator → Names
 declaration_calls specs ds = flat_map spec_calls specs ++ flat_map init_declarator_calls ds
 
-abbrev head_calls : ForHead → Names
+abbrev pub head_calls : ForHead → Names
 head_calls (head.Expr x) = optional expr_calls x
 head_calls (head.Declare specs ds) = declaration_calls specs ds
 
-abbrev stmt_layer : Stmt-F Names → Names
+abbrev pub stmt_layer : Stmt-F Names → Names
 stmt_layer (Stmt-F.Block items place) = lists items
 stmt_layer (Stmt-F.Declare specs ds place) = declaration_calls specs ds
 stmt_layer (Stmt-F.Expr x place) = optional expr_calls x

@@ -7,8 +7,7 @@ use Rattle.c_layout.specs.declared.tags.TagDef.{TagDef}
 use Rattle.c_layout.specs.declared.types.CType.{CType}
 use Rattle.c_layout.specs.declared.types.CType.TheVariants.{Ptr}
 use Rattle.c_layout.specs.Layouts.{layout}
-use Rattle.c_layout.specs.Library.{void_pointer}
-use Rattle.c_layout.specs.Types.{is_integer, is_pointer, is_array, is_structure, pointed, element, same_type, agreeing_pointers}
+use Rattle.c_layout.specs.Types.{is_void, is_integer, is_pointer, is_array, is_structure, pointed, element, same_type, agreeing_pointers}
 use Rattle.c_tree.specs.declared.typed.TypedExpr.{TypedExpr}
 use Rattle.c_tree.specs.declared.typed.TypedKind.{TypedKind, out-TypedKind}
 use Rattle.c_tree.specs.declared.typed.TypedKind.TheOpen.{TypedKind-F}
@@ -20,6 +19,9 @@ use Rattle.c_tree.specs.Conversions.{number_type}
 pub record Operand : Type 0 where
   pub ctype : CType
   pub null : Bool
+
+abbrev pub is_void_pointer : CType → Bool
+is_void_pointer t = is_pointer t && is_void (pointed t)
 
 module _ (tags : List TagDef) where
   abbrev pub has_size : CType → Bool
@@ -33,16 +35,16 @@ module _ (tags : List TagDef) where
   abbrev pub value_of : TypedExpr → Option ℤ
   value_of e = option_map (integer (number_type e.ctype).signed) (constant_of tags e)
 
-  abbrev is_zero : TypedExpr → Bool
+  abbrev pub is_zero : TypedExpr → Bool
   is_zero e = is_integer e.ctype && option_map_or (λ n. n == 0) (constant_of tags e) false
 
-  abbrev casts_zero : TypedKind-F TypedKind TypedExpr → Bool
+  abbrev pub casts_zero : TypedKind-F TypedKind TypedExpr → Bool
   casts_zero (TypedKind-F.Cast of false) = is_zero of
   casts_zero _ = false
 
   -- an integer constant expression of value 0, or a written cast of one to void *
   abbrev pub is_null : TypedExpr → Bool
-  is_null e = is_zero e || (same_type e.ctype void_pointer && casts_zero (out-TypedKind e.kind))
+  is_null e = is_zero e || (is_void_pointer e.ctype && casts_zero (out-TypedKind e.kind))
 
   abbrev pub operand : TypedExpr → Operand
   operand e = record { ctype = e.ctype; null = is_null e }
@@ -51,7 +53,7 @@ module _ (tags : List TagDef) where
 -- agrees, a null pointer constant each pointer, and a structure its own type.
 abbrev pub fits : Operand → CType → Bool
 fits from to =
-    (is_integer from.ctype && is_integer to) || agreeing_pointers from.ctype to || (from.null && is_pointer to)
+    (is_integer from.ctype && is_integer to) || agreeing_pointers from.ctype to || (is_pointer to && from.null)
     || (is_structure to && same_type from.ctype to)
 
 -- ---- conversions that typing adds

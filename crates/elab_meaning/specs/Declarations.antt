@@ -36,7 +36,7 @@ use Rattle.elab_meaning.specs.Expressions.{value_part, use_of}
 
 -- ---- the type that words name (6.7.2p2)
 
-abbrev word_number : BasicWord → ℕ
+abbrev pub word_number : BasicWord → ℕ
 word_number word.Void = 0
 word_number word.Char = 1
 word_number word.Short = 2
@@ -45,10 +45,10 @@ word_number word.Long = 4
 word_number word.Signed = 5
 word_number word.Unsigned = 6
 
-abbrev times : BasicWord → List BasicWord → ℕ
+abbrev pub times : BasicWord → List BasicWord → ℕ
 times w words = count_by (λ v. word_number v == word_number w) words
 
-abbrev has_word : BasicWord → List BasicWord → Bool
+abbrev pub has_word : BasicWord → List BasicWord → Bool
 has_word w words = nat_lt 0 (times w words)
 
 -- char alone differs from signed char; each other type is signed unless it is said to be unsigned
@@ -72,33 +72,33 @@ pub record Specifiers : Type 0 where
   pub is_inline : Bool
   pub attributes : List Attribute
 
-abbrev type_meant : Meant → Option CType
+abbrev pub type_meant : Meant → Option CType
 type_meant (type t) = Some t
 type_meant _ = None
 
-abbrev word_meant : Meant → Option BasicWord
+abbrev pub word_meant : Meant → Option BasicWord
 word_meant (basic w) = Some w
 word_meant _ = None
 
-abbrev attributes_meant : List Meant → List Attribute
+abbrev pub attributes_meant : List Meant → List Attribute
 attributes_meant [] = []
 attributes_meant (attributes list ∷ ms) = list ++ attributes_meant ms
 attributes_meant (_ ∷ ms) = attributes_meant ms
 
-abbrev is_typedef_word : Meant → Bool
+abbrev pub is_typedef_word : Meant → Bool
 is_typedef_word typedef_word = true
 is_typedef_word _ = false
 
-abbrev is_static_word : Meant → Bool
+abbrev pub is_static_word : Meant → Bool
 is_static_word static_word = true
 is_static_word _ = false
 
-abbrev is_inline_word : Meant → Bool
+abbrev pub is_inline_word : Meant → Bool
 is_inline_word inline_word = true
 is_inline_word _ = false
 
 -- the grammar has a typedef's name, structure, union or enumeration alone, or words of a basic type
-abbrev base_of : List CType → List BasicWord → CType
+abbrev pub base_of : List CType → List BasicWord → CType
 base_of [] words = basic_type words
 base_of (t ∷ ts) words = t
 
@@ -147,7 +147,7 @@ pub record Formed : Type 0 where
   pub too_many : Bool
 
 -- a type before any declarator
-abbrev unformed : List TagDef → CType → Formed
+abbrev pub unformed : List TagDef → CType → Formed
 unformed tags t = record {
   made = object_of t;
   depth = type_depths (tag_depth tags) t;
@@ -167,34 +167,34 @@ abbrev pub type_made : Made → CType
 type_made (object_of t) = t
 type_made (function_of params result) = Void
 
-abbrev pointed_to : Formed → Formed
+abbrev pub pointed_to : Formed → Formed
 pointed_to f = record f {
   made = object_of (Ptr (type_made f.made));
   depth = depth_of (suc f.depth.behind) (suc f.depth.behind);
   function_pointer = f.function_pointer || is_function_made f.made;
 }
 
-abbrev stars : ℕ → Formed → Formed
+abbrev pub stars : ℕ → Formed → Formed
 stars zero f = f
 stars (suc n) f = pointed_to (stars n f)
 
 -- how many elements a bound stands for
-abbrev count : ℤ → ℕ
+abbrev pub count : ℤ → ℕ
 count (pos n) = n
 count (negsuc n) = 0
 
-abbrev array_type : CType → Option ℤ → CType
+abbrev pub array_type : CType → Option ℤ → CType
 array_type t None = OpenArray t
 array_type t (Some bound) = Array t (count bound)
 
-abbrev is_below_one : Option ℤ → Bool
+abbrev pub is_below_one : Option ℤ → Bool
 is_below_one None = false
 is_below_one (Some bound) = count bound == 0
 
-abbrev is_too_large : List TagDef → CType → Bool
+abbrev pub is_too_large : List TagDef → CType → Bool
 is_too_large tags t = option_map_or (λ l. nat_lt largest_type l.size) (layout tags t) false
 
-abbrev arrayed : List TagDef → Option ℤ → Formed → Formed
+abbrev pub arrayed : List TagDef → Option ℤ → Formed → Formed
 arrayed tags bound f =
     let t = array_type (type_made f.made) bound in
     record f {
@@ -204,14 +204,14 @@ arrayed tags bound f =
       too_large = f.too_large || is_too_large tags t;
     }
 
-abbrev deeper : Depth → Depth → Depth
+abbrev pub deeper : Depth → Depth → Depth
 deeper a b = depth_of (max a.plain b.plain) (max a.behind b.behind)
 
-abbrev deepest_of : List TagDef → Depth → List CType → Depth
+abbrev pub deepest_of : List TagDef → Depth → List CType → Depth
 deepest_of tags d [] = d
 deepest_of tags d (t ∷ ts) = deeper (type_depths (tag_depth tags) t) (deepest_of tags d ts)
 
-abbrev returned : List TagDef → List Parameter → Formed → Formed
+abbrev pub returned : List TagDef → List Parameter → Formed → Formed
 returned tags params f =
     let types = map (λ p. p.ctype) params in
     record f {
@@ -223,7 +223,7 @@ returned tags params f =
     }
 
 -- from the outside in, to the name
-abbrev formed_by : List TagDef → Shape → Formed → Formed
+abbrev pub formed_by : List TagDef → Shape → Formed → Formed
 formed_by tags innermost f = f
 formed_by tags (pointer n of) f = formed_by tags of (stars n f)
 formed_by tags (array of bound) f = formed_by tags of (arrayed tags bound f)
@@ -239,12 +239,12 @@ passes_limit f = f.too_large || nat_lt deepest f.depth.plain
 
 -- ---- declarators
 
-abbrev is_star : PointerWord → Bool
+abbrev pub is_star : PointerWord → Bool
 is_star Star = true
 is_star _ = false
 
 -- a bound is an integer constant expression (6.7.6.2p1)
-abbrev bound_part : ReadExpr → Typing ℤ
+abbrev pub bound_part : ReadExpr → Typing ℤ
 bound_part bound = do
   x ← value_part bound
   tags ← look (λ s. s.tags)
@@ -292,15 +292,15 @@ declarator_layer (Declarator-F.Function of params place) = record {
 abbrev pub is_declared_from : ℕ → Name → Scope → Bool
 is_declared_from start name s = option_map_or (λ a. nat_le start a.0) (lookup name s) false
 
-abbrev is_repeated : ℕ → Option Name → Scope → Bool
+abbrev pub is_repeated : ℕ → Option Name → Scope → Bool
 is_repeated start name s = option_map_or (λ n. is_declared_from start n s) name false
 
 -- p7 and p8: an array becomes a pointer to its element, and a function a pointer, which is refused
-abbrev adjusted : Made → CType
+abbrev pub adjusted : Made → CType
 adjusted (object_of t) = if is_array t then Ptr (element t) else t
 adjusted (function_of params result) = Ptr Void
 
-abbrev add_if_named : Option Name → NameUse → Scope → Scope
+abbrev pub add_if_named : Option Name → NameUse → Scope → Scope
 add_if_named None what s = s
 add_if_named (Some name) what s = add name what s
 
@@ -322,14 +322,14 @@ param_layer p start number = do
   change (add_if_named p.declarator.name (Local number t))
   pure (record { name = p.declarator.name; place = p.declarator.place; ctype = t })
 
-abbrev params_from : ℕ → ℕ → List ReadParam → Typing (List Parameter)
+abbrev pub params_from : ℕ → ℕ → List ReadParam → Typing (List Parameter)
 params_from start number [] = pure []
 params_from start number (p ∷ ps) = do
   a ← p start number
   more ← params_from start (number + 1) ps
   pure (a ∷ more)
 
-abbrev listed_params : List ReadParam → Typing (List Parameter)
+abbrev pub listed_params : List ReadParam → Typing (List Parameter)
 listed_params ps = do
   start ← look len
   all ← params_from start 0 ps
@@ -356,20 +356,20 @@ type_name_layer t = do
 
 -- ---- members (6.7.2.1)
 
-abbrev has_member : List Member → Option Name → Bool
+abbrev pub has_member : List Member → Option Name → Bool
 has_member members name = option_map_or (λ n. list_any (λ m. bytes_eq m.name n) members) name false
 
 -- p3, p18: a member has a size, or is the last of a structure with others, an array without a bound whose elements have a size
-abbrev is_flexible : List TagDef → Bool → List Member → Bool → CType → Bool
+abbrev pub is_flexible : List TagDef → Bool → List Member → Bool → CType → Bool
 is_flexible tags is_union before is_last t =
     is_open_array t && has_size tags (element t) && not is_union && nat_lt 0 (length before) && is_last
 
 -- the members so far pass the limit
-abbrev members_too_large : List TagDef → Bool → List Member → Bool
+abbrev pub members_too_large : List TagDef → Bool → List Member → Bool
 members_too_large tags is_union members =
     option_map_or (λ ls. nat_lt largest_type (aggregate is_union ls).size) (member_layouts (tag_layout tags) members) false
 
-abbrev member_part : Specifiers → Bool → List Member → Bool → ReadDeclarator → Typing (List Member)
+abbrev pub member_part : Specifiers → Bool → List Member → Bool → ReadDeclarator → Typing (List Member)
 member_part specs is_union before is_last d = do
   shape ← d.parts
   tags ← look (λ s. s.tags)
@@ -386,11 +386,11 @@ member_part specs is_union before is_last d = do
       ∷ (LimitArguments, f.too_many) ∷ [])
   pure members
 
-abbrev is_none_left : {A : Type 0} → List A → Bool
+abbrev pub is_none_left : {A : Type 0} → List A → Bool
 is_none_left [] = true
 is_none_left (a ∷ more) = false
 
-abbrev member_parts : Specifiers → Bool → Bool → List Member → List ReadDeclarator → Typing (List Member)
+abbrev pub member_parts : Specifiers → Bool → Bool → List Member → List ReadDeclarator → Typing (List Member)
 member_parts specs is_union is_last before [] = pure before
 member_parts specs is_union is_last before (d ∷ ds) = do
   members ← member_part specs is_union before (is_last && is_none_left ds) d
@@ -401,7 +401,7 @@ member_layer m is_union before is_last = do
   specs ← specifiers_part m.specs
   member_parts specs is_union is_last before m.declarators
 
-abbrev members_part : Bool → List Member → List ReadMembers → Typing (List Member)
+abbrev pub members_part : Bool → List Member → List ReadMembers → Typing (List Member)
 members_part is_union before [] = pure before
 members_part is_union before (m ∷ ms) = do
   members ← m is_union before (is_none_left ms)
@@ -409,19 +409,19 @@ members_part is_union before (m ∷ ms) = do
 
 -- ---- structures and unions (6.7.2.1 and 6.7.2.3)
 
-abbrev is_union_word : Aggregate → Bool
+abbrev pub is_union_word : Aggregate → Bool
 is_union_word aggregates.Struct = false
 is_union_word aggregates.Union = true
 
-abbrev tag_type : Aggregate → ℕ → CType
+abbrev pub tag_type : Aggregate → ℕ → CType
 tag_type aggregates.Struct number = Struct number
 tag_type aggregates.Union number = Union number
 
-abbrev without_members : Name → Aggregate → TagDef
+abbrev pub without_members : Name → Aggregate → TagDef
 without_members name aggregate = record { name = name; is_union = is_union_word aggregate; members = []; complete = false }
 
 -- The body of a structure or union: it is complete behind its last member. While it is open it may have no second body.
-abbrev body_part : Name → Aggregate → ℕ → List ReadMembers → Typing Meant
+abbrev pub body_part : Name → Aggregate → ℕ → List ReadMembers → Typing Meant
 body_part name aggregate number members = do
   note (λ b. record b { open_tags = number ∷ b.open_tags })
   all ← members_part (is_union_word aggregate) [] members
@@ -430,25 +430,25 @@ body_part name aggregate number members = do
   pure (type (tag_type aggregate number))
 
 -- a tag that is an enumeration's, or the other of structure and union
-abbrev is_other_kind : Name → Aggregate → Scope → Bool
+abbrev pub is_other_kind : Name → Aggregate → Scope → Bool
 is_other_kind name aggregate s = has_enum name s || option_map_or (λ def. not (same_truth def.is_union (is_union_word aggregate)))
     (option_and_then (slice_get s.tags) (find_tag name s)) false
 
 -- a tag that has a body, or whose body is being read
-abbrev has_body : Name → List ℕ → Scope → Bool
+abbrev pub has_body : Name → List ℕ → Scope → Bool
 has_body name open_tags s = option_map_or (λ number. list_any (λ tag. tag == number) open_tags
     || option_map_or (λ def. def.complete) (slice_get s.tags number) false) (find_tag name s) false
 
 -- the number of a tag, which its first mention gives it
-abbrev tag_number : Name → Aggregate → Option ℕ → Typing ℕ
+abbrev pub tag_number : Name → Aggregate → Option ℕ → Typing ℕ
 tag_number name aggregate (Some number) = pure number
 tag_number name aggregate None = new_tag (without_members name aggregate)
 
-abbrev body_if_any : Name → Aggregate → ℕ → Option (List ReadMembers) → Typing Meant
+abbrev pub body_if_any : Name → Aggregate → ℕ → Option (List ReadMembers) → Typing Meant
 body_if_any name aggregate number None = pure (type (tag_type aggregate number))
 body_if_any name aggregate number (Some members) = body_part name aggregate number members
 
-abbrev tagged_part : Aggregate → Identifier → Option (List ReadMembers) → Typing Meant
+abbrev pub tagged_part : Aggregate → Identifier → Option (List ReadMembers) → Typing Meant
 tagged_part aggregate tag members = do
   open_tags ← recall (λ b. b.open_tags)
   scope ← look (λ s. s)
@@ -456,7 +456,7 @@ tagged_part aggregate tag members = do
   number ← tag_number tag.name aggregate (find_tag tag.name scope)
   body_if_any tag.name aggregate number members
 
-abbrev untagged_part : Aggregate → List ReadMembers → Typing Meant
+abbrev pub untagged_part : Aggregate → List ReadMembers → Typing Meant
 untagged_part aggregate members = do
   number ← new_tag (without_members [] aggregate)
   body_part [] aggregate number members
@@ -464,10 +464,10 @@ untagged_part aggregate members = do
 -- ---- enumerations (6.7.2.2)
 
 -- a value converted to int. That it wraps is this project's own.
-abbrev as_int : ℤ → ℤ
+abbrev pub as_int : ℤ → ℤ
 as_int n = arithmetic.integer true (arithmetic.converted (number_type int) n)
 
-abbrev enumerator_value : ℤ → Option ReadExpr → Typing ℤ
+abbrev pub enumerator_value : ℤ → Option ReadExpr → Typing ℤ
 enumerator_value otherwise None = pure otherwise
 enumerator_value otherwise (Some value) = do
   n ← bound_part value
@@ -482,18 +482,18 @@ enumerator_layer e otherwise = do
   pure n
 
 -- p3: each is one more than the one before it
-abbrev enumerators_from : ℤ → List ReadEnumerator → Typing (Unit {0})
+abbrev pub enumerators_from : ℤ → List ReadEnumerator → Typing (Unit {0})
 enumerators_from n [] = pure tt
 enumerators_from n (e ∷ es) = do
   m ← e n
   enumerators_from (as_int (m +ℤ pos 1)) es
 
 -- a tag that is a structure's or union's, or an enumeration's with a body
-abbrev is_taken : Name → Scope → Bool
+abbrev pub is_taken : Name → Scope → Bool
 is_taken name s = has_enum name s || is_some (find_tag name s)
 
 -- The tag is looked at before the body and behind it: a structure of its name may have been mentioned inside.
-abbrev enum_part : Option Identifier → List ReadEnumerator → Typing Meant
+abbrev pub enum_part : Option Identifier → List ReadEnumerator → Typing Meant
 enum_part None enumerators = do
   enumerators_from (pos 0) enumerators
   pure (type int)
@@ -506,7 +506,7 @@ enum_part (Some tag) enumerators = do
   change (add_enum tag.name)
   pure (type int)
 
-abbrev enum_tag_part : Identifier → Typing Meant
+abbrev pub enum_tag_part : Identifier → Typing Meant
 enum_tag_part tag = do
   scope ← look (λ s. s)
   first tag.place ((Redeclared, is_some (find_tag tag.name scope)) ∷ (UnknownName, not (has_enum tag.name scope)) ∷ [])
@@ -515,11 +515,11 @@ enum_tag_part tag = do
 -- ---- specifiers
 
 -- The type that a typedef's name stands for. The grammar has the word as a type's name only where it is one.
-abbrev type_named : Option NameUse → CType
+abbrev pub type_named : Option NameUse → CType
 type_named (Some (Typedef t)) = t
 type_named _ = Void
 
-abbrev typedef_name_part : Name → Typing Meant
+abbrev pub typedef_name_part : Name → Typing Meant
 typedef_name_part name = do
   used ← use_of name
   pure (type (type_named used))

@@ -36,22 +36,22 @@ use Rattle.elab_meaning.specs.Externals.{has_number, is_among, header_function_n
 
 -- ---- the numbers of functions, read off the file before it is typed
 
-abbrev name_in : Declarator → Name
+abbrev pub name_in : Declarator → Name
 name_in d = unwrap_or (read_declarator d).name []
 
 -- the names that a file declares, in text order
-abbrev names_in : External → List Name
+abbrev pub names_in : External → List Name
 names_in (external.Header id place) = []
 names_in (external.Declaration specs ds place) = map (λ d. name_in d.declarator) ds
 names_in (external.Function specs d body place) = name_in d ∷ []
 
 -- those with a body
-abbrev defined_in : External → List Name
+abbrev pub defined_in : External → List Name
 defined_in (external.Function specs d body place) = name_in d ∷ []
 defined_in _ = []
 
 -- each once, where it stands first
-abbrev once : List Name → List Name → List Name
+abbrev pub once : List Name → List Name → List Name
 once seen [] = []
 once seen (name ∷ names) = if is_among seen name then once seen names else name ∷ once (name ∷ seen) names
 
@@ -61,19 +61,19 @@ numbered xs = filter (is_among (flat_map defined_in xs)) (once [] (flat_map name
 
 -- ---- what a typed body does
 
-abbrev optional : {A B : Type 0} → (A → List B) → Option A → List B
+abbrev pub optional : {A B : Type 0} → (A → List B) → Option A → List B
 optional f x = option_map_or f x []
 
 -- what its expressions give, in their order
 module _ (of : TypedExpr → List ℕ) where
-  abbrev in_declare : TypedDeclare → List ℕ
+  abbrev pub in_declare : TypedDeclare → List ℕ
   in_declare d = optional (λ i. flat_map (λ l. of l.value) (leaves i)) d.init
 
-  abbrev in_head : TypedForHead → List ℕ
+  abbrev pub in_head : TypedForHead → List ℕ
   in_head (head.Evaluate x) = optional of x
   in_head (head.Variables ds) = flat_map in_declare ds
 
-  abbrev in_stmt : TypedStmt-F (List ℕ) → List ℕ
+  abbrev pub in_stmt : TypedStmt-F (List ℕ) → List ℕ
   in_stmt (TypedStmt-F.Block items place) = flat_map (λ ns. ns) items
   in_stmt (TypedStmt-F.Declare d) = in_declare d
   in_stmt (TypedStmt-F.Expr x place) = optional of x
@@ -92,14 +92,14 @@ module _ (of : TypedExpr → List ℕ) where
 -- ---- the functions of the typed tree
 
 -- a register variable is an integer or a pointer whose address is taken nowhere in the body
-abbrev locals_from : List ℕ → ℕ → List (Name × CType) → List LocalDef
+abbrev pub locals_from : List ℕ → ℕ → List (Name × CType) → List LocalDef
 locals_from addressed number [] = []
 locals_from addressed number (l ∷ ls) =
     record { name = l.0; ctype = l.1; in_register = is_scalar l.1 && not (has_number addressed number) }
     ∷ locals_from addressed (number + 1) ls
 
 -- a function before its counts are known
-abbrev function_of_body : List Declared → Body → FnDef
+abbrev pub function_of_body : List Declared → Body → FnDef
 function_of_body fs b = record {
   name = b.name;
   params = b.params;
@@ -111,19 +111,19 @@ function_of_body fs b = record {
   body = b.body;
 }
 
-abbrev body_named : List Body → Name → Option Body
+abbrev pub body_named : List Body → Name → Option Body
 body_named bodies name = find (λ b. bytes_eq b.name name) bodies
 
 -- in the order of their numbers
-abbrev uncounted : Beside → List FnDef
+abbrev pub uncounted : Beside → List FnDef
 uncounted b = filter_map (λ name. option_map (function_of_body b.functions) (body_named b.bodies name)) b.numbered
 
 -- with its counts, where those of the functions that it calls inline are known
-abbrev with_counts : List TagDef → List FnDef → FnDef → FnDef
+abbrev pub with_counts : List TagDef → List FnDef → FnDef → FnDef
 with_counts tags fs f = record f { counts = function_counts tags fs f }
 
 -- Counts with those of inline calls, so many calls deep: where they form no cycle, none is deeper than there are functions.
-abbrev counted : List TagDef → ℕ → List FnDef → List FnDef
+abbrev pub counted : List TagDef → ℕ → List FnDef → List FnDef
 counted tags zero fs = fs
 counted tags (suc n) fs = map (with_counts tags (counted tags n fs)) fs
 
@@ -132,44 +132,44 @@ functions_of tags b = counted tags (length b.numbered) (uncounted b)
 
 -- ---- inline calls that form a cycle
 
-abbrev is_inline : List FnDef → ℕ → Bool
+abbrev pub is_inline : List FnDef → ℕ → Bool
 is_inline fs number = option_map_or (λ f. f.inlined) (slice_get fs number) false
 
-abbrev inline_calls : List FnDef → ℕ → List ℕ
+abbrev pub inline_calls : List FnDef → ℕ → List ℕ
 inline_calls fs number = option_map_or (λ f. filter (is_inline fs) (in_body calls f.body)) (slice_get fs number) []
 
 -- from one function to another by one inline call or more, so many at most
-abbrev reaches : List FnDef → ℕ → ℕ → ℕ → Bool
+abbrev pub reaches : List FnDef → ℕ → ℕ → ℕ → Bool
 reaches fs zero from to = false
 reaches fs (suc n) from to = list_any (λ next. next == to || reaches fs n next to) (inline_calls fs from)
 
 -- the lowest number of a function on a cycle
-abbrev on_cycle : List FnDef → Option ℕ
+abbrev pub on_cycle : List FnDef → Option ℕ
 on_cycle fs = find (λ number. reaches fs (length fs) number number) (range_with_len 0 (length fs))
 
 -- ---- main (5.1.2.2.1)
 
-abbrev has_main_params : List CType → Bool
+abbrev pub has_main_params : List CType → Bool
 has_main_params [] = true
 has_main_params (a ∷ b ∷ []) = same_type a int && same_type b (Ptr char_pointer)
 has_main_params _ = false
 
-abbrev is_main : FnDef → Bool
+abbrev pub is_main : FnDef → Bool
 is_main f = bytes_eq f.name (codes "main") && same_type f.result int && has_main_params f.params && not f.inlined
 
 -- ---- the rules at the end
 
-abbrev start : Place
+abbrev pub start : Place
 start = record { line = 1; col = 1 }
 
 -- the functions that the included headers declare
-abbrev library_names : Beside → List Name
+abbrev pub library_names : Beside → List Name
 library_names b = flat_map header_function_names b.included
 
-abbrev lacks_body : Beside → CalledName → Bool
+abbrev pub lacks_body : Beside → CalledName → Bool
 lacks_body b c = not (is_among b.numbered c.name) && not (is_among (library_names b) c.name)
 
-abbrev first_place : Place → Beside → Option ℕ → Place
+abbrev pub first_place : Place → Beside → Option ℕ → Place
 first_place otherwise b number =
     option_map_or (λ d. d.place) (option_and_then (declared_of b.functions) (option_and_then (slice_get b.numbered) number)) otherwise
 
@@ -188,12 +188,12 @@ end_part xs = do
 
 -- ---- a whole file
 
-abbrev file_part : List External → Typing TypedTree
+abbrev pub file_part : List External → Typing TypedTree
 file_part xs = do
   external_parts xs
   end_part xs
 
-abbrev without_state : {A : Type 0} → Result (A × State) Refusal → Result A Refusal
+abbrev pub without_state : {A : Type 0} → Result (A × State) Refusal → Result A Refusal
 without_state (Ok (a, s)) = Ok a
 without_state (Err r) = Err r
 

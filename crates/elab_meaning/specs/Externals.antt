@@ -41,26 +41,26 @@ use Rattle.elab_meaning.specs.Statements.{name_of, nameless, static_variable, va
 abbrev pub header_function_names : HeaderId → List Name
 header_function_names h = map (λ f. (row_of f).name) (header_row h).functions
 
-abbrev header_names : HeaderId → List Name
+abbrev pub header_names : HeaderId → List Name
 header_names h = header_function_names h ++ map (λ t. t.name) (header_row h).types
 
 abbrev pub is_among : List Name → Name → Bool
 is_among names name = list_any (λ other. bytes_eq other name) names
 
 -- a name of a header that the file declared: one that is there, and that no earlier header has
-abbrev clashes : List HeaderId → Scope → Name → Bool
+abbrev pub clashes : List HeaderId → Scope → Name → Bool
 clashes included scope name = is_some (lookup name scope) && not (is_among (flat_map header_names included) name)
 
-abbrev add_functions : List LibFn → Scope → Scope
+abbrev pub add_functions : List LibFn → Scope → Scope
 add_functions [] s = s
 add_functions (f ∷ fs) s = add_functions fs (add (row_of f).name (Library f) s)
 
-abbrev add_types : List TypeName → Scope → Scope
+abbrev pub add_types : List TypeName → Scope → Scope
 add_types [] s = s
 add_types (t ∷ ts) s = add_types ts (add t.name (Typedef (header_ctype t)) s)
 
 -- its functions and its types; its macros are no names here
-abbrev header_part : HeaderId → Place → Typing ⊤
+abbrev pub header_part : HeaderId → Place → Typing ⊤
 header_part h place = do
   included ← recall (λ b. b.included)
   scope ← look (λ s. s)
@@ -70,7 +70,7 @@ header_part h place = do
 
 -- ---- an initialiser that nothing takes: of a function or a typedef (6.7.9p3)
 
-abbrev no_init : Option Init → Typing ⊤
+abbrev pub no_init : Option Init → Typing ⊤
 no_init None = pure tt
 no_init (Some init) = do
   (read_init init).parts
@@ -78,7 +78,7 @@ no_init (Some init) = do
 
 -- ---- typedefs (6.7.8)
 
-abbrev typedef_part : Specifiers → ReadDeclarator → Option Init → Typing ⊤
+abbrev pub typedef_part : Specifiers → ReadDeclarator → Option Init → Typing ⊤
 typedef_part specs d init = do
   shape ← d.parts
   scope ← look (λ s. s)
@@ -100,28 +100,28 @@ abbrev pub has_number : List ℕ → ℕ → Bool
 has_number numbers number = list_any (λ n. n == number) numbers
 
 -- A second declaration of a variable has the same type, and not a second initialiser.
-abbrev differs_from : List ℕ → CType → Bool → Option NameUse → Bool
+abbrev pub differs_from : List ℕ → CType → Bool → Option NameUse → Bool
 differs_from initialised t has_init None = false
 differs_from initialised t has_init (Some (Object number u)) = not (same_type t u) || (has_init && has_number initialised number)
 differs_from initialised t has_init (Some other) = true
 
 -- the object of a variable: that of an earlier declaration
-abbrev object_number : Option NameUse → Typing ℕ
+abbrev pub object_number : Option NameUse → Typing ℕ
 object_number (Some (Object number t)) = pure number
 object_number other = new_object nameless
 
 -- a declaration that only repeats another changes nothing
-abbrev variable_value : Option NameUse → ℕ → Name → CType → Option Init → Typing CType
+abbrev pub variable_value : Option NameUse → ℕ → Name → CType → Option Init → Typing CType
 variable_value None number name t init = static_variable number name t init
 variable_value (Some other) number name t None = pure t
 variable_value (Some other) number name t (Some init) = static_variable number name t (Some init)
 
-abbrev note_init : ℕ → Option Init → Typing ⊤
+abbrev pub note_init : ℕ → Option Init → Typing ⊤
 note_init number None = pure tt
 note_init number (Some init) = note (λ b. record b { initialised = number ∷ b.initialised })
 
 -- An array that its initialiser completes is held against an earlier declaration behind the initialiser.
-abbrev variable_part : Specifiers → ReadDeclarator → Option Init → Typing ⊤
+abbrev pub variable_part : Specifiers → ReadDeclarator → Option Init → Typing ⊤
 variable_part specs d init = do
   before ← use_of (name_of d)
   number ← object_number before
@@ -143,7 +143,7 @@ variable_part specs d init = do
 
 -- ---- functions (6.7.6.3)
 
-abbrev all_same : List CType → List CType → Bool
+abbrev pub all_same : List CType → List CType → Bool
 all_same [] [] = true
 all_same (a ∷ more) (b ∷ others) = same_type a b && all_same more others
 all_same _ _ = false
@@ -152,52 +152,52 @@ abbrev pub declared_of : List Declared → Name → Option Declared
 declared_of fs name = find (λ f. bytes_eq f.name name) fs
 
 -- A second declaration of a function has the same types, and not a second body.
-abbrev is_other_function : List CType → CType → Bool → Option Declared → Option NameUse → Bool
+abbrev pub is_other_function : List CType → CType → Bool → Option Declared → Option NameUse → Bool
 is_other_function params result has_body known None = false
 is_other_function params result has_body known (Some (Function number ps r)) =
     not (all_same params ps && same_type result r) || (has_body && option_map_or (λ f. f.has_body) known false)
 is_other_function params result has_body known (Some other) = true
 
 -- a function's number: its place among those with a body, or behind the last
-abbrev number_in : List Name → Name → ℕ
+abbrev pub number_in : List Name → Name → ℕ
 number_in numbered name = unwrap_or (position (λ other. bytes_eq other name) numbered) (length numbered)
 
 -- the parameters and the result that are declared
-abbrev params_made : Made → List CType
+abbrev pub params_made : Made → List CType
 params_made (object_of t) = []
 params_made (function_of params result) = params
 
-abbrev result_made : Made → CType
+abbrev pub result_made : Made → CType
 result_made (object_of t) = Void
 result_made (function_of params result) = result
 
 -- ---- the attribute alloc_size (GCC manual, "Common Function Attributes")
 
 -- one number, or two with a comma between
-abbrev numbers_in : List TokenKind → Option (ℕ × Option ℕ)
+abbrev pub numbers_in : List TokenKind → Option (ℕ × Option ℕ)
 numbers_in (token.Number n kind ∷ []) = Some (n, None)
 numbers_in (token.Number n kind ∷ token.Punct Comma ∷ token.Number m other ∷ []) = Some (n, Some m)
 numbers_in _ = None
 
-abbrev attribute_numbers : Attribute → Option (ℕ × Option ℕ)
+abbrev pub attribute_numbers : Attribute → Option (ℕ × Option ℕ)
 attribute_numbers a = option_and_then (λ args. numbers_in (map (λ t. t.kind) args)) a.args
 
 -- the number of an integer parameter, from 1
-abbrev is_integer_parameter : List CType → ℕ → Bool
+abbrev pub is_integer_parameter : List CType → ℕ → Bool
 is_integer_parameter params n = nat_lt 0 n && option_map_or is_integer (slice_get params (n - 1)) false
 
-abbrev are_right : List CType → CType → ℕ × Option ℕ → Bool
+abbrev pub are_right : List CType → CType → ℕ × Option ℕ → Bool
 are_right params result a = is_pointer result && is_integer_parameter params a.0 && option_map_or (is_integer_parameter params) a.1 true
 
-abbrev same_numbers : ℕ × Option ℕ → ℕ × Option ℕ → Bool
+abbrev pub same_numbers : ℕ × Option ℕ → ℕ × Option ℕ → Bool
 same_numbers a b = a.0 == b.0 && option_map_or (λ n. option_map_or (λ m. n == m) b.1 false) a.1 (is_none b.1)
 
-abbrev agree : Option (ℕ × Option ℕ) → ℕ × Option ℕ → Bool
+abbrev pub agree : Option (ℕ × Option ℕ) → ℕ × Option ℕ → Bool
 agree None a = true
 agree (Some b) a = same_numbers a b
 
 -- the numbers of a function behind its attributes, of which one after the other is held against those before it; none where one is wrong
-abbrev alloc_sizes : List CType → CType → Option (ℕ × Option ℕ) → List Attribute → Option (Option (ℕ × Option ℕ))
+abbrev pub alloc_sizes : List CType → CType → Option (ℕ × Option ℕ) → List Attribute → Option (Option (ℕ × Option ℕ))
 alloc_sizes params result known [] = Some known
 alloc_sizes params result known (attribute ∷ more) =
     option_and_then
@@ -206,21 +206,21 @@ alloc_sizes params result known (attribute ∷ more) =
 
 -- ---- what a function's declarations say of it
 
-abbrev known_sizes : Option Declared → Option (ℕ × Option ℕ)
+abbrev pub known_sizes : Option Declared → Option (ℕ × Option ℕ)
 known_sizes f = option_and_then (λ d. d.alloc_size) f
 
 -- one more declaration
-abbrev with_declaration : Name → Place → Bool → Bool → Option (ℕ × Option ℕ) → Option Declared → Declared
+abbrev pub with_declaration : Name → Place → Bool → Bool → Option (ℕ × Option ℕ) → Option Declared → Declared
 with_declaration name place has_body inlined sizes None =
     record { name = name; place = place; has_body = has_body; inlined = inlined; alloc_size = sizes }
 with_declaration name place has_body inlined sizes (Some f) =
     record f { has_body = f.has_body || has_body; inlined = f.inlined || inlined; alloc_size = sizes }
 
-abbrev replaced : Declared → List Declared → List Declared
+abbrev pub replaced : Declared → List Declared → List Declared
 replaced f fs = f ∷ filter (λ g. not (bytes_eq g.name f.name)) fs
 
 -- A declarator of a function, with a body or not: its rules, and then its name is there.
-abbrev function_part : Specifiers → ReadDeclarator → Shape → Bool → Bool → Typing ⊤
+abbrev pub function_part : Specifiers → ReadDeclarator → Shape → Bool → Bool → Typing ⊤
 function_part specs d shape has_body lacks_names = do
   before ← use_of (name_of d)
   tags ← look (λ s. s.tags)
@@ -245,7 +245,7 @@ function_part specs d shape has_body lacks_names = do
         replaced (with_declaration (name_of d) d.place has_body specs.is_inline (unwrap_or sizes None) known) b.functions;
   })
 
-abbrev declared_function : Specifiers → ReadDeclarator → Option Init → Typing ⊤
+abbrev pub declared_function : Specifiers → ReadDeclarator → Option Init → Typing ⊤
 declared_function specs d init = do
   shape ← d.parts
   function_part specs d shape false false
@@ -253,19 +253,19 @@ declared_function specs d init = do
 
 -- ---- declarations
 
-abbrev declarator_part : Specifiers → ReadDeclarator → Option Init → Typing ⊤
+abbrev pub declarator_part : Specifiers → ReadDeclarator → Option Init → Typing ⊤
 declarator_part specs d init =
     if specs.is_typedef then typedef_part specs d init
     else (if d.is_function then declared_function specs d init
     else variable_part specs d init)
 
-abbrev declarator_parts : Specifiers → List InitDeclarator → Typing ⊤
+abbrev pub declarator_parts : Specifiers → List InitDeclarator → Typing ⊤
 declarator_parts specs [] = pure tt
 declarator_parts specs (d ∷ ds) = do
   declarator_part (with_attributes specs d) (read_declarator d.declarator) d.init
   declarator_parts specs ds
 
-abbrev declaration_part : List Spec → List InitDeclarator → Typing ⊤
+abbrev pub declaration_part : List Spec → List InitDeclarator → Typing ⊤
 declaration_part specs ds = do
   known ← specifiers_part (map read_spec specs)
   declarator_parts known ds
@@ -273,25 +273,25 @@ declaration_part specs ds = do
 -- ---- definitions (6.9.1)
 
 -- the parameters of the list next to the name
-abbrev own_params : Shape → List Parameter
+abbrev pub own_params : Shape → List Parameter
 own_params innermost = []
 own_params (function innermost params) = params
 own_params (function of params) = own_params of
 own_params (pointer n of) = own_params of
 own_params (array of bound) = own_params of
 
-abbrev add_params : List Parameter → Typing ⊤
+abbrev pub add_params : List Parameter → Typing ⊤
 add_params [] = pure tt
 add_params (p ∷ ps) = do
   number ← new_local (unwrap_or p.name []) p.ctype
   change (add (unwrap_or p.name []) (Local number p.ctype))
   add_params ps
 
-abbrev around_body : CType → ℕ → Around
+abbrev pub around_body : CType → ℕ → Around
 around_body result start = record { result = result; start = start; can_break = false; can_continue = false }
 
 -- The parameters and the body's own block are one scope.
-abbrev body_part : Specifiers → ReadDeclarator → Shape → Stmt → Typing ⊤
+abbrev pub body_part : Specifiers → ReadDeclarator → Shape → Stmt → Typing ⊤
 body_part specs d shape body = do
   tags ← look (λ s. s.tags)
   let made = (formed tags specs.base shape).made
@@ -308,10 +308,11 @@ body_part specs d shape body = do
       locals = b.locals;
       body = x;
     } ∷ [];
+    locals = [];
   })
 
 -- A definition that declares no function, or is a typedef, breaks that rule alone.
-abbrev definition_part : List Spec → Declarator → Stmt → Typing ⊤
+abbrev pub definition_part : List Spec → Declarator → Stmt → Typing ⊤
 definition_part specs declarator body = do
   known ← specifiers_part (map read_spec specs)
   let d = read_declarator declarator

@@ -30,8 +30,11 @@ use Rattle.c_tree.specs.Conversions.{number_type}
 use Rattle.elab_meaning.specs.Typing.{Typing, ◌>>=◌, ◌>>◌, pure, each, first, look, note}
 use Rattle.elab_meaning.specs.Parts.{Form, is_text, ReadExpr}
 use Rattle.elab_meaning.specs.Conversions.{operand, converted, fits}
-use Rattle.elab_meaning.specs.Addresses.{Pointer, null, at, address_of, is_constant}
-use Rattle.elab_meaning.specs.Expressions.{node, value_part}
+use Rattle.elab_meaning.specs.declared.addresses.Pointer.{Pointer}
+use Rattle.elab_meaning.specs.declared.addresses.Pointer.TheVariants.{Null, At}
+use Rattle.elab_meaning.specs.Addresses.{address_of, is_constant}
+use Rattle.elab_meaning.specs.Expressions.{value_part}
+use Rattle.elab_meaning.specs.Nodes.{node}
 use Rattle.elab_meaning.specs.Trees.{read_expr}
 
 -- ---- items
@@ -64,20 +67,20 @@ pub record Filled : Type 0 where
   pub left : List Item
   pub begun : ℕ
 
-abbrev filled : List TypedInit → List Item → Filled
+abbrev pub filled : List TypedInit → List Item → Filled
 filled inits left = record { inits = inits; left = left; begun = 0 }
 
 -- an object, or its parts, at an offset of the variable, take from a list of items
 abbrev pub Filling : Type 0
 Filling = (offset : ℕ) → List Item → Typing Filled
 
-abbrev takes_nothing : Filling
+abbrev pub takes_nothing : Filling
 takes_nothing offset items = pure (filled [] items)
 
 -- ---- leaves
 
 -- an expression that initialises an object of that type (p11, p13): a static one by a constant (p4)
-abbrev leaf : Bool → CType → ℕ → Place → TypedExpr → Typing TypedInit
+abbrev pub leaf : Bool → CType → ℕ → Place → TypedExpr → Typing TypedInit
 leaf is_static t offset place x = do
   scope ← look (λ s. s)
   first place (
@@ -86,18 +89,18 @@ leaf is_static t offset place x = do
   pure (i.Expr offset (converted t x))
 
 -- what the array of a literal takes of the sum of data, as an object of its size does. This project's own.
-abbrev text_room : List ℕ → ℕ
+abbrev pub text_room : List ℕ → ℕ
 text_room text = aligned (length text + 1 + 1) 16
 
-abbrev count_layer : Layer → Option ℕ
+abbrev pub count_layer : Layer → Option ℕ
 count_layer (CType-F.Array of count) = Some count
 count_layer _ = None
 
 -- the elements of an array with a bound
-abbrev count_of : CType → Option ℕ
+abbrev pub count_of : CType → Option ℕ
 count_of t = count_layer (out-CType t)
 
-abbrev is_char_array : CType → Bool
+abbrev pub is_char_array : CType → Bool
 is_char_array t = is_array t && is_char (element t)
 
 -- an array without a bound has so many elements
@@ -106,7 +109,7 @@ completed t n = if is_open_array t then Array (element t) n else t
 
 -- A string literal that initialises an array of characters (p14): its NUL is left away where there is no room for it. It is no object, but
 -- it counts in the sum of data.
-abbrev text_leaf : CType → ℕ → Place → List ℕ → Typing TypedInit
+abbrev pub text_leaf : CType → ℕ → Place → List ℕ → Typing TypedInit
 text_leaf t offset place text = do
   first place (
       (LimitObject, nat_lt largest_type (length text + 1))
@@ -118,7 +121,7 @@ text_leaf t offset place text = do
 
 module _ (is_static : Bool) (tags : List TagDef) where
   -- A scalar takes one expression. Braces stand here in the braces of a scalar, round nothing that takes them (p11).
-  abbrev scalar_item : CType → ℕ → ReadInit → Written → List Item → Typing Filled
+  abbrev pub scalar_item : CType → ℕ → ReadInit → Written → List Item → Typing Filled
   scalar_item t offset r (expression form x) left = do
     y ← x
     l ← leaf is_static t offset r.place y
@@ -128,7 +131,7 @@ module _ (is_static : Bool) (tags : List TagDef) where
     first r.place ((BadInitialiser, true) ∷ [])
     pure (filled [] left)
 
-  abbrev scalar : CType → Filling
+  abbrev pub scalar : CType → Filling
   scalar t offset [] = pure (filled [] [])
   scalar t offset (as_typed place x ∷ left) = do
     l ← leaf is_static t offset place x
@@ -136,7 +139,7 @@ module _ (is_static : Bool) (tags : List TagDef) where
   scalar t offset (as_written r ∷ left) = scalar_item t offset r r.written left
 
   -- Elements of a size one behind another, so many at most: each takes what it takes from the items that those before it left.
-  abbrev elements : ℕ → ℕ → Filling → Filling
+  abbrev pub elements : ℕ → ℕ → Filling → Filling
   elements zero size one offset items = pure (filled [] items)
   elements (suc n) size one offset [] = pure (filled [] [])
   elements (suc n) size one offset (item ∷ items) = do
@@ -147,7 +150,7 @@ module _ (is_static : Bool) (tags : List TagDef) where
   -- ---- an object, by the item in front; `inside` is how its parts take items
 
   -- an expression fills a structure whole where it has its type (p13)
-  abbrev typed_item : CType → Filling → ℕ → Place → TypedExpr → List Item → Typing Filled
+  abbrev pub typed_item : CType → Filling → ℕ → Place → TypedExpr → List Item → Typing Filled
   typed_item t inside offset place x left =
       if is_structure t && same_type x.ctype t
       then (do
@@ -155,7 +158,7 @@ module _ (is_static : Bool) (tags : List TagDef) where
         pure (filled (l ∷ []) left))
       else inside offset (as_typed place x ∷ left)
 
-  abbrev text_item : CType → Filling → ℕ → ReadInit → List ℕ → List Item → Typing Filled
+  abbrev pub text_item : CType → Filling → ℕ → ReadInit → List ℕ → List Item → Typing Filled
   text_item t inside offset r text left =
       if is_char_array t
       then (do
@@ -163,7 +166,7 @@ module _ (is_static : Bool) (tags : List TagDef) where
         pure (filled (l ∷ []) left))
       else inside offset (as_written r ∷ left)
 
-  abbrev written_item : CType → Filling → ℕ → ReadInit → Written → List Item → Typing Filled
+  abbrev pub written_item : CType → Filling → ℕ → ReadInit → Written → List Item → Typing Filled
   written_item t inside offset r (braces f) left = do
     b ← f is_static t offset
     pure (filled (b.init ∷ []) left)
@@ -175,7 +178,7 @@ module _ (is_static : Bool) (tags : List TagDef) where
         typed_item t inside offset r.place y left)
       else inside offset (as_written r ∷ left)
 
-  abbrev object : CType → Filling → Filling
+  abbrev pub object : CType → Filling → Filling
   object t inside offset [] = pure (filled [] [])
   object t inside offset (as_typed place x ∷ left) = typed_item t inside offset place x left
   object t inside offset (as_written r ∷ left) = written_item t inside offset r r.written left
@@ -189,19 +192,19 @@ pub record Taker : Type 0 where
   pub inside : Filling
 
 module _ (is_static : Bool) (tags : List TagDef) where
-  abbrev taker : CType → Filling → Taker
+  abbrev pub taker : CType → Filling → Taker
   taker t inside = record { whole = t; take = object is_static tags t inside; inside = inside }
 
-  abbrev size_of : CType → ℕ
+  abbrev pub size_of : CType → ℕ
   size_of t = option_map_or (λ l. l.size) (layout tags t) 0
 
   -- each element that is begun takes an item, so no more than there are items are begun
-  abbrev elements_of : ℕ → Taker → Filling
+  abbrev pub elements_of : ℕ → Taker → Filling
   elements_of count one offset items = elements is_static tags (min count (length items)) (size_of one.whole) one.take offset items
 
   -- Where the parts of the structures and unions are known. A flexible array member takes nothing (6.7.2.1p18).
   module _ (inside_tag : ℕ → Filling) where
-    abbrev taker_layer : CType-F Taker → Taker
+    abbrev pub taker_layer : CType-F Taker → Taker
     taker_layer CType-F.Void = taker Void takes_nothing
     taker_layer (CType-F.Int width signed plain_char long_long) =
         let t = Int width signed plain_char long_long in taker t (scalar is_static tags t)
@@ -211,11 +214,11 @@ module _ (is_static : Bool) (tags : List TagDef) where
     taker_layer (CType-F.Struct tag) = taker (Struct tag) (inside_tag tag)
     taker_layer (CType-F.Union tag) = taker (Union tag) (inside_tag tag)
 
-    abbrev taker_of : CType → Taker
+    abbrev pub taker_of : CType → Taker
     taker_of = fold-CType Taker taker_layer
 
     -- members one behind another, from this number on
-    abbrev members : ℕ → ℕ → List Member → Filling
+    abbrev pub members : ℕ → ℕ → List Member → Filling
     members tag number [] start items = pure (filled [] items)
     members tag number (m ∷ ms) start [] = pure (filled [] [])
     members tag number (m ∷ ms) start (item ∷ items) = do
@@ -224,31 +227,31 @@ module _ (is_static : Bool) (tags : List TagDef) where
       pure (filled (f.inits ++ g.inits) g.left)
 
     -- of a union the first alone (p17)
-    abbrev first_members : TagDef → List Member
+    abbrev pub first_members : TagDef → List Member
     first_members def = if def.is_union then take 1 def.members else def.members
 
-    abbrev members_of : ℕ → Filling
+    abbrev pub members_of : ℕ → Filling
     members_of tag = option_map_or (λ def. members tag 0 (first_members def)) (slice_get tags tag) takes_nothing
 
   -- through at most so many tags one inside another
-  abbrev inside_within : ℕ → ℕ → Filling
+  abbrev pub inside_within : ℕ → ℕ → Filling
   inside_within zero tag = takes_nothing
   inside_within (suc n) tag = members_of (inside_within n) tag
 
   -- No tag contains itself, so at most all complete tags stand one inside another.
-  abbrev taker_at : CType → Taker
+  abbrev pub taker_at : CType → Taker
   taker_at = taker_of (inside_within (complete_count tags))
 
   -- ---- braces
 
   -- an array without a bound takes all items
-  abbrev all_inside : CType → Filling
+  abbrev pub all_inside : CType → Filling
   all_inside t offset items =
       if is_open_array t then elements_of (length items) (taker_at (element t)) offset items
       else (taker_at t).inside offset items
 
   -- a string literal in braces of its own (p14)
-  abbrev text_inside : CType → ReadInit → Written → Filling
+  abbrev pub text_inside : CType → ReadInit → Written → Filling
   text_inside t r (expression (is_text text) x) offset items =
       if is_char_array t
       then (do
@@ -257,20 +260,20 @@ module _ (is_static : Bool) (tags : List TagDef) where
       else all_inside t offset items
   text_inside t r _ offset items = all_inside t offset items
 
-  abbrev inside_braces : CType → Filling
+  abbrev pub inside_braces : CType → Filling
   inside_braces t offset [] = pure (filled [] [])
   inside_braces t offset (as_typed place x ∷ items) = all_inside t offset (as_typed place x ∷ items)
   inside_braces t offset (as_written r ∷ items) = text_inside t r r.written offset (as_written r ∷ items)
 
 -- the first item that nothing takes (p2), once its own parts are typed
-abbrev none_left : List Item → Typing ⊤
+abbrev pub none_left : List Item → Typing ⊤
 none_left [] = pure tt
 none_left (as_typed place x ∷ items) = first place ((BadInitialiser, true) ∷ [])
 none_left (as_written r ∷ items) = do
   r.parts
   first r.place ((BadInitialiser, true) ∷ [])
 
-abbrev in_braces : List Item → Place → Bool → CType → ℕ → Typing Braced
+abbrev pub in_braces : List Item → Place → Bool → CType → ℕ → Typing Braced
 in_braces items place is_static t offset = do
   tags ← look (λ s. s.tags)
   f ← inside_braces is_static tags t offset items
@@ -279,15 +282,15 @@ in_braces items place is_static t offset = do
 
 -- ---- initialisers
 
-abbrev nothing_of : {A : Type 0} → Typing A → Typing ⊤
+abbrev pub nothing_of : {A : Type 0} → Typing A → Typing ⊤
 nothing_of part = do
   a ← part
   pure tt
 
-abbrev by_expr : ReadExpr → ReadInit
+abbrev pub by_expr : ReadExpr → ReadInit
 by_expr r = record { place = r.place; written = expression r.form (value_part r); parts = nothing_of (value_part r) }
 
-abbrev init_layer : Init-F ReadInit → ReadInit
+abbrev pub init_layer : Init-F ReadInit → ReadInit
 init_layer (Init-F.Expr x) = by_expr (read_expr x)
 init_layer (Init-F.List items place) = record {
   place = place;
@@ -298,7 +301,7 @@ init_layer (Init-F.List items place) = record {
 abbrev pub read_init : Init → ReadInit
 read_init = fold-Init ReadInit init_layer
 
-abbrev completes_by : CType → Written → Bool
+abbrev pub completes_by : CType → Written → Bool
 completes_by t (expression (is_text text) x) = is_char (element t)
 completes_by t (expression form x) = false
 completes_by t (braces f) = true
@@ -313,11 +316,11 @@ pub record Initialised : Type 0 where
   pub ctype : CType
 
 -- the text of a string literal for an array of characters
-abbrev text_for : CType → Form → Option (List ℕ)
+abbrev pub text_for : CType → Form → Option (List ℕ)
 text_for t (is_text text) = if is_char_array t then Some text else None
 text_for t _ = None
 
-abbrev initialised_by : Bool → CType → Place → Written → Typing Initialised
+abbrev pub initialised_by : Bool → CType → Place → Written → Typing Initialised
 initialised_by is_static t place (braces f) = do
   b ← f is_static t 0
   pure (record { init = b.init; ctype = completed t b.begun })
@@ -343,7 +346,7 @@ pub record Leaf : Type 0 where
   pub offset : ℕ
   pub value : TypedExpr
 
-abbrev leaves_layer : TypedInit-F (List Leaf) → List Leaf
+abbrev pub leaves_layer : TypedInit-F (List Leaf) → List Leaf
 leaves_layer (TypedInit-F.Expr offset value) = record { offset = offset; value = value } ∷ []
 leaves_layer (TypedInit-F.List items place) = flat_map (λ leaves. leaves) items
 
@@ -351,21 +354,21 @@ leaves_layer (TypedInit-F.List items place) = flat_map (λ leaves. leaves) items
 abbrev pub leaves : TypedInit → List Leaf
 leaves = fold-TypedInit (List Leaf) leaves_layer
 
-abbrev text_in : TypedKind-F TypedKind TypedExpr → Option (List ℕ)
+abbrev pub text_in : TypedKind-F TypedKind TypedExpr → Option (List ℕ)
 text_in (TypedKind-F.Str text) = Some text
 text_in _ = None
 
 -- the bytes of a string that initialises an array
-abbrev leaf_text : Leaf → Option (List ℕ)
+abbrev pub leaf_text : Leaf → Option (List ℕ)
 leaf_text l = text_in (out-TypedKind l.value.kind)
 
 -- the low bytes of a number, the lowest first
-abbrev low_bytes : ℕ → ℕ → List ℕ
+abbrev pub low_bytes : ℕ → ℕ → List ℕ
 low_bytes zero n = []
 low_bytes (suc k) n = n % 256 ∷ low_bytes k (n / 256)
 
 -- bytes with others in their place from an offset on
-abbrev stored : ℕ → List ℕ → List ℕ → List ℕ
+abbrev pub stored : ℕ → List ℕ → List ℕ → List ℕ
 stored offset new bytes = take offset bytes ++ new ++ drop (offset + length new) bytes
 
 module _ (tags : List TagDef) (objects : List DataDef) where
@@ -373,21 +376,21 @@ module _ (tags : List TagDef) (objects : List DataDef) where
   is_constant_leaf l = option_map_or (λ text. true) (leaf_text l) (is_constant tags objects l.value)
 
   -- Of a pointer eight zero bytes: where it points stands in its link.
-  abbrev number_bytes : TypedExpr → List ℕ
+  abbrev pub number_bytes : TypedExpr → List ℕ
   number_bytes x = if is_integer x.ctype then low_bytes (width_bytes (number_type x.ctype).width) (unwrap_or (constant_of tags x) 0) else []
 
-  abbrev leaf_bytes : Leaf → List ℕ
+  abbrev pub leaf_bytes : Leaf → List ℕ
   leaf_bytes l = unwrap_or (leaf_text l) (number_bytes l.value)
 
   -- an object that isn't initialised is zero (p10), and so is what no leaf stores (p21)
   abbrev pub bytes_of : ℕ → List Leaf → List ℕ
   bytes_of size ls = fold (λ bytes l. stored l.offset (leaf_bytes l) bytes) (replicate size 0) ls
 
-  abbrev link_to : ℕ → Pointer → Option Link
-  link_to offset null = None
-  link_to offset (at s) = Some (record { at = offset; target = s.object; offset = s.offset; end = s.end })
+  abbrev pub link_to : ℕ → Pointer → Option Link
+  link_to offset Null = None
+  link_to offset (At s) = Some (record { at = offset; target = s.object; offset = s.offset; end = s.end })
 
-  abbrev link_of : Leaf → Option Link
+  abbrev pub link_of : Leaf → Option Link
   link_of l = option_and_then (link_to l.offset) (address_of tags objects l.value)
 
   abbrev pub links_of : List Leaf → List Link

@@ -6,6 +6,7 @@ pub mod Ends
 pub mod Expressions
 pub mod Externals
 pub mod Initialisers
+pub mod Nodes
 pub mod Operators
 pub mod Parts
 pub mod Scope

@@ -13,26 +13,19 @@ use Rattle.c_tree.specs.declared.operators.PrefixOp.{PrefixOp}
 use Rattle.c_tree.specs.declared.operators.PrefixOp.TheVariants as prefix
 use Rattle.c_layout.specs.Types.{Layer, is_void, is_integer, is_pointer, is_scalar, is_array, is_structure, pointed, same_type, promoted, int, long, agreeing_pointers}
 use Rattle.c_tree.specs.Conversions.{common}
-use Rattle.elab_meaning.specs.Conversions.{Operand, points_to_no_size, fits}
-
--- What an operator makes of its operands: whether it lacks the size of what one of them points to, whether C11 refuses their types, the
--- types that they are converted to, and the type of the result. Of operands that are refused the types mean nothing.
-pub record Operation : Type 0 where
-  pub incomplete : Bool
-  pub refused : Bool
-  pub left : CType
-  pub right : CType
-  pub result : CType
+use Rattle.elab_meaning.specs.declared.operations.Operation.{Operation}
+use Rattle.elab_meaning.specs.declared.operations.Single.{Single}
+use Rattle.elab_meaning.specs.Conversions.{Operand, is_void_pointer, points_to_no_size, fits}
 
 -- operands that are taken, at these types
-abbrev takes : CType → CType → CType → Operation
+abbrev pub takes : CType → CType → CType → Operation
 takes left right result = record { incomplete = false; refused = false; left = left; right = right; result = result }
 
-abbrev refuses : Operation
+abbrev pub refuses : Operation
 refuses = record { incomplete = false; refused = true; left = Void; right = Void; result = Void }
 
 -- taken where the test holds
-abbrev only_if : Bool → Operation → Operation
+abbrev pub only_if : Bool → Operation → Operation
 only_if holds taken = if holds then taken else refuses
 
 -- what an operand is to an operator
@@ -41,7 +34,7 @@ pub data Kind : Type 0 where
   pointer : Kind
   other : Kind
 
-abbrev kind_layer : Layer → Kind
+abbrev pub kind_layer : Layer → Kind
 kind_layer (CType-F.Int width signed plain_char long_long) = integer
 kind_layer (CType-F.Ptr of) = pointer
 kind_layer _ = other
@@ -52,53 +45,56 @@ kind t = kind_layer (out-CType t)
 -- ---- binary operators
 
 -- two integers, both converted to the common type, which is the result's
-abbrev in_common : CType → CType → Operation
+abbrev pub in_common : CType → CType → Operation
 in_common a b = takes (common a b) (common a b) (common a b)
 
 -- two integers, both converted to the common type, that give an int
-abbrev compared : CType → CType → Operation
+abbrev pub compared : CType → CType → Operation
 compared a b = takes (common a b) (common a b) int
 
 -- 6.5.8p2: both integers, or pointers that agree
-abbrev ordered : Kind → Kind → CType → CType → Operation
+abbrev pub ordered : Kind → Kind → CType → CType → Operation
 ordered integer integer a b = compared a b
 ordered pointer pointer a b = only_if (agreeing_pointers a b) (takes a a int)
 ordered _ _ a b = refuses
 
 -- 6.5.9p2: the same, or a pointer and a null pointer constant
-abbrev equated : Kind → Kind → Operand → Operand → Operation
+abbrev pub equated : Kind → Kind → Operand → Operand → Operation
 equated integer integer a b = compared a.ctype b.ctype
 equated pointer pointer a b = only_if (agreeing_pointers a.ctype b.ctype) (takes a.ctype a.ctype int)
 equated pointer integer a b = only_if b.null (takes a.ctype a.ctype int)
 equated integer pointer a b = only_if a.null (takes b.ctype b.ctype int)
 equated _ _ a b = refuses
 
-abbrev both_integers : Operand → Operand → Operation → Operation
+abbrev pub both_integers : Operand → Operand → Operation → Operation
 both_integers a b = only_if (is_integer a.ctype && is_integer b.ctype)
 
 module _ (tags : List TagDef) where
   -- a pointer that is moved: what it points to needs a size. The number is not converted.
-  abbrev moved : CType → CType → CType → Operation
+  abbrev pub moved : CType → CType → CType → Operation
   moved p left right = record { incomplete = points_to_no_size tags p; refused = false; left = left; right = right; result = p }
 
   -- 6.5.6p2: both integers, or a pointer and an integer
-  abbrev added : Kind → Kind → CType → CType → Operation
+  abbrev pub added : Kind → Kind → CType → CType → Operation
   added integer integer a b = in_common a b
   added pointer integer a b = moved a a b
   added integer pointer a b = moved b a b
   added _ _ a b = refuses
 
   -- 6.5.6p3: both integers, pointers that agree, or a pointer and an integer. A difference of pointers is a long.
-  abbrev subtracted : Kind → Kind → CType → CType → Operation
-  subtracted integer integer a b = in_common a b
-  subtracted pointer integer a b = moved a a b
-  subtracted pointer pointer a b = record {
+  abbrev pub difference : CType → CType → Operation
+  difference a b = record {
     incomplete = points_to_no_size tags a || points_to_no_size tags b;
     refused = not (agreeing_pointers a b);
     left = a;
     right = b;
     result = long;
   }
+
+  abbrev pub subtracted : Kind → Kind → CType → CType → Operation
+  subtracted integer integer a b = in_common a b
+  subtracted pointer integer a b = moved a a b
+  subtracted pointer pointer a b = difference a b
   subtracted _ _ a b = refuses
 
   -- the table
@@ -143,18 +139,18 @@ applied assign.BitXor = Some binary.BitXor
 applied assign.BitOr = Some binary.BitOr
 
 -- the left side is kept, and the result is of its type
-abbrev kept : CType → Operation → Operation
+abbrev pub kept : CType → Operation → Operation
 kept to o = record o { left = to; result = to }
 
 module _ (tags : List TagDef) where
   -- 6.5.16.2p1, p2: both integers, or for += and -= a pointer and an integer. The right side is converted as the operator's.
-  abbrev compound : BinaryOp → Kind → Kind → Operand → Operand → Operation
+  abbrev pub compound : BinaryOp → Kind → Kind → Operand → Operand → Operation
   compound op integer integer to from = kept to.ctype (operation tags op to from)
   compound op pointer integer to from = kept to.ctype (operation tags op to from)
   compound op _ _ to from = refuses
 
   -- 6.5.16.1p1: the right side is converted to the type of the left one
-  abbrev assigned : Option BinaryOp → Operand → Operand → Operation
+  abbrev pub assigned : Option BinaryOp → Operand → Operand → Operation
   assigned None to from = only_if (fits from to.ctype) (takes to.ctype to.ctype to.ctype)
   assigned (Some op) to from = compound op (kind to.ctype) (kind from.ctype) to from
 
@@ -164,15 +160,15 @@ module _ (tags : List TagDef) where
 -- ---- the conditional operator (6.5.15)
 
 -- p6: pointers: the type of the other where one is a null pointer constant, else pointer to void where one is that, else the first's
-abbrev chosen : Operand → Operand → CType
+abbrev pub chosen : Operand → Operand → CType
 chosen a b =
     if a.null then b.ctype
     else (if b.null then a.ctype
-    else (if is_void (pointed b.ctype) then b.ctype
+    else (if is_void_pointer b.ctype then b.ctype
     else a.ctype))
 
 -- p3, p5: integers, pointers, two of one structure type, or both void
-abbrev joined : Kind → Kind → Operand → Operand → Operation
+abbrev pub joined : Kind → Kind → Operand → Operand → Operation
 joined integer integer a b = in_common a.ctype b.ctype
 joined pointer pointer a b = only_if (agreeing_pointers a.ctype b.ctype) (takes (chosen a b) (chosen a b) (chosen a b))
 joined pointer integer a b = only_if b.null (takes a.ctype a.ctype a.ctype)
@@ -202,15 +198,17 @@ wanted prefix.Minus = plain_value
 wanted prefix.BitNot = plain_value
 wanted prefix.Not = plain_value
 
--- as `Operation`, with one operand
-pub record Single : Type 0 where
-  pub incomplete : Bool
-  pub refused : Bool
-  pub operand : CType
-  pub result : CType
-
-abbrev single : Bool → CType → CType → Single
+abbrev pub single : Bool → CType → CType → Single
 single refused operand result = record { incomplete = false; refused = refused; operand = operand; result = result }
+
+-- the sum of a pointer and an integer, as what it points to
+abbrev pub pointer_sum : Operation → Single
+pointer_sum o = record {
+  incomplete = o.incomplete;
+  refused = o.refused || not (is_pointer o.result);
+  operand = o.result;
+  result = pointed o.result;
+}
 
 module _ (tags : List TagDef) where
   -- 6.5.3.1 and 6.5.2.4: a scalar, where a pointer is moved by one element. An array is refused as what can't be changed.
@@ -233,14 +231,6 @@ module _ (tags : List TagDef) where
   unary prefix.Not t = single (not (is_scalar t)) t int
 
   -- 6.5.2.1: `a[b]` is `*(a + b)`, with one pointer and one integer
-  abbrev pointer_sum : Operation → Single
-  pointer_sum o = record {
-    incomplete = o.incomplete;
-    refused = o.refused || not (is_pointer o.result);
-    operand = o.result;
-    result = pointed o.result;
-  }
-
   abbrev pub subscript : Operand → Operand → Single
   subscript a b = pointer_sum (operation tags binary.Add a b)
 

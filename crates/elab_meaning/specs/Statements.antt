@@ -41,7 +41,7 @@ abbrev pub size_in : List TagDef → CType → ℕ
 size_in tags t = option_map_or (λ l. l.size) (layout tags t) 0
 
 -- The size of a variable while its initialiser is read: an array without a bound counts as the limit, since its own size comes of it.
-abbrev size_meanwhile : List TagDef → CType → ℕ
+abbrev pub size_meanwhile : List TagDef → CType → ℕ
 size_meanwhile tags t = if is_open_array t then largest_type else size_in tags t
 
 -- the object of a variable before its type is known
@@ -53,7 +53,7 @@ store_variable number name t ls =
     change (λ scope. set_object number (variable_of scope.tags scope.objects name (size_in scope.tags t) ls) scope)
 
 -- Once an array has its bound, its size is its own: pointers into it that pass that are no constants.
-abbrev constant_leaves : List Leaf → Typing ⊤
+abbrev pub constant_leaves : List Leaf → Typing ⊤
 constant_leaves [] = pure tt
 constant_leaves (l ∷ ls) = do
   scope ← look (λ scope. scope)
@@ -61,7 +61,7 @@ constant_leaves (l ∷ ls) = do
   constant_leaves ls
 
 -- the initialiser of a static variable: its type behind it, and its object
-abbrev static_initialised : ℕ → Name → CType → Init → Typing CType
+abbrev pub static_initialised : ℕ → Name → CType → Init → Typing CType
 static_initialised number name t init = do
   change (λ scope. set_object number (variable_of scope.tags scope.objects name (size_meanwhile scope.tags t) []) scope)
   x ← initialised true t init
@@ -106,12 +106,12 @@ pub record Around : Type 0 where
 abbrev pub name_of : ReadDeclarator → Name
 name_of d = unwrap_or d.name []
 
-abbrev whole_local : ℕ → Name → CType → Typing ⊤
+abbrev pub whole_local : ℕ → Name → CType → Typing ⊤
 whole_local number name t = do
   note (λ b. record b { locals = slice_set b.locals number (name, t) })
   change (add name (Local number t))
 
-abbrev local_initialised : ℕ → ReadDeclarator → CType → Option Init → Typing (Option TypedInit)
+abbrev pub local_initialised : ℕ → ReadDeclarator → CType → Option Init → Typing (Option TypedInit)
 local_initialised number d t None = pure None
 local_initialised number d t (Some init) = do
   x ← initialised false t init
@@ -120,7 +120,7 @@ local_initialised number d t (Some init) = do
   pure (Some x.init)
 
 -- The name is there behind its declarator, and so in its own initialiser (6.2.1p7), where an array without a bound has none yet.
-abbrev local_part : Around → Specifiers → ReadDeclarator → Option Init → Typing (List TypedDeclare)
+abbrev pub local_part : Around → Specifiers → ReadDeclarator → Option Init → Typing (List TypedDeclare)
 local_part around specs d init = do
   shape ← d.parts
   scope ← look (λ scope. scope)
@@ -132,7 +132,7 @@ local_part around specs d init = do
   pure (record { local = number; init = x; place = d.place } ∷ [])
 
 -- A static variable is an object from its declarator on, before the string literals in that, and leaves no declaration.
-abbrev static_part : Around → Specifiers → ReadDeclarator → Option Init → Typing (List TypedDeclare)
+abbrev pub static_part : Around → Specifiers → ReadDeclarator → Option Init → Typing (List TypedDeclare)
 static_part around specs d init = do
   number ← new_object nameless
   shape ← d.parts
@@ -149,31 +149,31 @@ static_part around specs d init = do
 abbrev pub with_attributes : Specifiers → InitDeclarator → Specifiers
 with_attributes specs d = record specs { attributes = specs.attributes ++ flat_map (λ list. list) d.attributes }
 
-abbrev variable_part : Around → Specifiers → InitDeclarator → Typing (List TypedDeclare)
+abbrev pub variable_part : Around → Specifiers → InitDeclarator → Typing (List TypedDeclare)
 variable_part around specs d =
     if specs.is_static
     then static_part around (with_attributes specs d) (read_declarator d.declarator) d.init
     else local_part around (with_attributes specs d) (read_declarator d.declarator) d.init
 
-abbrev variable_parts : Around → Specifiers → List InitDeclarator → Typing (List TypedDeclare)
+abbrev pub variable_parts : Around → Specifiers → List InitDeclarator → Typing (List TypedDeclare)
 variable_parts around specs [] = pure []
 variable_parts around specs (d ∷ ds) = do
   one ← variable_part around specs d
   more ← variable_parts around specs ds
   pure (one ++ more)
 
-abbrev block_declaration : Around → List Spec → List InitDeclarator → Typing (List TypedDeclare)
+abbrev pub block_declaration : Around → List Spec → List InitDeclarator → Typing (List TypedDeclare)
 block_declaration around specs ds = do
   known ← specifiers_part (map read_spec specs)
   variable_parts around known ds
 
 -- ---- expressions in statements
 
-abbrev value : Expr → Typing TypedExpr
+abbrev pub value : Expr → Typing TypedExpr
 value x = value_part (read_expr x)
 
 -- a test is a scalar, and is looked at right behind itself, at the statement (6.8.4.1p1, 6.8.5p2)
-abbrev test_part : Place → Expr → Typing TypedExpr
+abbrev pub test_part : Place → Expr → Typing TypedExpr
 test_part place x = do
   t ← value x
   first place ((BadOperands, not (is_scalar t.ctype)) ∷ [])
@@ -194,26 +194,26 @@ pub record ReadStmt : Type 0 where
   pub typed : Around → Typing (List TypedStmt)
   pub unscoped : Around → Typing (List TypedStmt)
 
-abbrev plain : (Around → Typing (List TypedStmt)) → ReadStmt
+abbrev pub plain : (Around → Typing (List TypedStmt)) → ReadStmt
 plain typed = record { label = no_label; typed = typed; unscoped = typed }
 
 -- a statement that gives one
-abbrev single : (Around → Typing TypedStmt) → ReadStmt
+abbrev pub single : (Around → Typing TypedStmt) → ReadStmt
 single typed = plain (λ around. do
   x ← typed around
   pure (x ∷ []))
 
 -- the statement that a part of another gives: the grammar has no declaration there
-abbrev one_of : Place → List TypedStmt → TypedStmt
+abbrev pub one_of : Place → List TypedStmt → TypedStmt
 one_of place [] = s.Expr None place
 one_of place (x ∷ xs) = x
 
-abbrev part : Place → Around → ReadStmt → Typing TypedStmt
+abbrev pub part : Place → Around → ReadStmt → Typing TypedStmt
 part place around r = do
   xs ← r.typed around
   pure (one_of place xs)
 
-abbrev item_parts : Around → List ReadStmt → Typing (List TypedStmt)
+abbrev pub item_parts : Around → List ReadStmt → Typing (List TypedStmt)
 item_parts around [] = pure []
 item_parts around (r ∷ rs) = do
   xs ← r.typed around
@@ -221,7 +221,7 @@ item_parts around (r ∷ rs) = do
   pure (xs ++ more)
 
 -- in a scope of its own, which begins here (6.2.1p4)
-abbrev scoped : {A : Type 0} → (Around → Typing A) → Around → Typing A
+abbrev pub scoped : {A : Type 0} → (Around → Typing A) → Around → Typing A
 scoped typed around = do
   start ← look len
   x ← typed (record around { start = start })
@@ -230,40 +230,40 @@ scoped typed around = do
 
 -- ---- one kind after the other
 
-abbrev expr_stmt : Option Expr → Place → Typing TypedStmt
+abbrev pub expr_stmt : Option Expr → Place → Typing TypedStmt
 expr_stmt x place = do
   y ← if_any (option_map value x)
   pure (s.Expr y place)
 
-abbrev else_stmt : Place → Around → Option ReadStmt → Typing (Option TypedStmt)
+abbrev pub else_stmt : Place → Around → Option ReadStmt → Typing (Option TypedStmt)
 else_stmt place around None = pure None
 else_stmt place around (Some r) = do
   x ← part place around r
   pure (Some x)
 
-abbrev if_stmt : Expr → ReadStmt → Option ReadStmt → Place → Around → Typing TypedStmt
+abbrev pub if_stmt : Expr → ReadStmt → Option ReadStmt → Place → Around → Typing TypedStmt
 if_stmt test then_part else_part place around = do
   t ← test_part place test
   a ← part place around then_part
   b ← else_stmt place around else_part
   pure (s.If t a b place)
 
-abbrev in_loop : Around → Around
+abbrev pub in_loop : Around → Around
 in_loop around = record around { can_break = true; can_continue = true }
 
-abbrev while_stmt : Expr → ReadStmt → Place → Around → Typing TypedStmt
+abbrev pub while_stmt : Expr → ReadStmt → Place → Around → Typing TypedStmt
 while_stmt test body place around = do
   t ← test_part place test
   b ← part place (in_loop around) body
   pure (s.While t b place)
 
-abbrev do_stmt : ReadStmt → Expr → Place → Around → Typing TypedStmt
+abbrev pub do_stmt : ReadStmt → Expr → Place → Around → Typing TypedStmt
 do_stmt body test place around = do
   b ← part place (in_loop around) body
   t ← test_part place test
   pure (s.Do b t place)
 
-abbrev head_part : ForHead → Around → Typing TypedForHead
+abbrev pub head_part : ForHead → Around → Typing TypedForHead
 head_part (written_head.Expr x) around = do
   y ← if_any (option_map value x)
   pure (head.Evaluate y)
@@ -271,7 +271,7 @@ head_part (written_head.Declare specs ds) around = do
   variables ← block_declaration around specs ds
   pure (head.Variables variables)
 
-abbrev for_stmt : ForHead → Option Expr → Option Expr → ReadStmt → Place → Around → Typing TypedStmt
+abbrev pub for_stmt : ForHead → Option Expr → Option Expr → ReadStmt → Place → Around → Typing TypedStmt
 for_stmt before test step body place around = do
   h ← head_part before around
   t ← if_any (option_map (test_part place) test)
@@ -287,7 +287,7 @@ pub record Labels : Type 0 where
   pub has_default : Bool
 
 -- p3: an integer constant expression, converted to the promoted type of the switch; no two have one value
-abbrev case_part : CType → Labels → Expr → Place → Typing (TypedExpr × Labels)
+abbrev pub case_part : CType → Labels → Expr → Place → Typing (TypedExpr × Labels)
 case_part t seen x place = do
   y ← value x
   tags ← look (λ scope. scope.tags)
@@ -296,7 +296,7 @@ case_part t seen x place = do
   first place ((BadStatement, list_any (λ m. m == n) seen.values) ∷ [])
   pure (converted t y, record seen { values = n ∷ seen.values })
 
-abbrev label_part : CType → Labels → Around → Label → ReadStmt → Typing (List TypedStmt × Labels)
+abbrev pub label_part : CType → Labels → Around → Label → ReadStmt → Typing (List TypedStmt × Labels)
 label_part t seen around no_label r = do
   xs ← r.typed around
   pure (xs, seen)
@@ -307,7 +307,7 @@ label_part t seen around (default_label place) r = do
   first place ((BadStatement, seen.has_default) ∷ [])
   pure (s.Default place ∷ [], record seen { has_default = true })
 
-abbrev switch_items : CType → Labels → Around → List ReadStmt → Typing (List TypedStmt)
+abbrev pub switch_items : CType → Labels → Around → List ReadStmt → Typing (List TypedStmt)
 switch_items t seen around [] = pure []
 switch_items t seen around (r ∷ rs) = do
   (xs, now) ← label_part t seen around r.label r
@@ -315,7 +315,7 @@ switch_items t seen around (r ∷ rs) = do
   pure (xs ++ more)
 
 -- p1: the test is an integer, and is promoted (p5)
-abbrev switch_stmt : Expr → List ReadStmt → Place → Around → Typing TypedStmt
+abbrev pub switch_stmt : Expr → List ReadStmt → Place → Around → Typing TypedStmt
 switch_stmt subject items place around = do
   x ← value subject
   first place ((BadOperands, not (is_integer x.ctype)) ∷ [])
@@ -326,14 +326,14 @@ switch_stmt subject items place around = do
 -- ---- jumps (6.8.6)
 
 -- p1 of 6.8.6.4: no value in a function that gives void, whatever its type, and one in each other, which is converted (p3)
-abbrev return_value : CType → Place → Expr → Typing TypedExpr
+abbrev pub return_value : CType → Place → Expr → Typing TypedExpr
 return_value result place x = do
   y ← value x
   tags ← look (λ scope. scope.tags)
   first place ((BadOperands, not (is_void result) && not (fits (operand tags y) result)) ∷ (BadStatement, is_void result) ∷ [])
   pure (converted result y)
 
-abbrev return_stmt : Option Expr → Place → Around → Typing TypedStmt
+abbrev pub return_stmt : Option Expr → Place → Around → Typing TypedStmt
 return_stmt None place around = do
   first place ((BadStatement, not (is_void around.result)) ∷ [])
   pure (s.Return None place)
@@ -343,16 +343,16 @@ return_stmt (Some x) place around = do
 
 -- ---- each kind
 
-abbrev block_stmt : List ReadStmt → Place → Around → Typing (List TypedStmt)
+abbrev pub block_stmt : List ReadStmt → Place → Around → Typing (List TypedStmt)
 block_stmt items place around = do
   xs ← item_parts around items
   pure (s.Block xs place ∷ [])
 
-abbrev block_layer : List ReadStmt → Place → ReadStmt
+abbrev pub block_layer : List ReadStmt → Place → ReadStmt
 block_layer items place =
     record { label = no_label; typed = scoped (block_stmt items place); unscoped = block_stmt items place }
 
-abbrev stmt_layer : Stmt-F ReadStmt → ReadStmt
+abbrev pub stmt_layer : Stmt-F ReadStmt → ReadStmt
 stmt_layer (Stmt-F.Block items place) = block_layer items place
 stmt_layer (Stmt-F.Declare specs declarators place) = plain (λ around. do
   ds ← block_declaration around specs declarators
@@ -375,7 +375,7 @@ stmt_layer (Stmt-F.Return x place) = single (return_stmt x place)
 stmt_layer (Stmt-F.Case x place) = record (plain (λ around. pure [])) { label = case_label x place }
 stmt_layer (Stmt-F.Default place) = record (plain (λ around. pure [])) { label = default_label place }
 
-abbrev read_stmt : Stmt → ReadStmt
+abbrev pub read_stmt : Stmt → ReadStmt
 read_stmt = fold-Stmt ReadStmt stmt_layer
 
 -- the body of a function, whose block is one scope with the parameters (6.2.1p4)

@@ -2,9 +2,9 @@
 --
 -- A part is typed in a state, and gives what typing makes of it and the state behind it, or a refusal: `Typing A`. Parts follow each other
 -- in text order by `◌>>=◌`, that is in `do` blocks: behind a refusal nothing is looked at, and the refusal is the answer of the whole.
--- Only `first` refuses: at a place, by the first of its checks that is broken, which stand in the order of the rules. So a node is a
+-- Only `judged` refuses: at a place, by the first of its checks that is broken, which stand in the order of the rules. So a node is a
 -- `do` block of its parts in text order, then `first place checks`, and then what the node is: a function that no longer asks whether a
--- rule is broken, and that gives anything at all where one is.
+-- rule is broken, and that gives anything at all where one is. Of an operator (Nodes.antt) the last two are one word, `judged`.
 use Rattle.std.specs.Prelude.{ℕ, Bool, if◌then◌else◌, ⊤, List, [], ◌∷◌, ◌++◌, length, Option, None, Some, Result, Ok, Err}
 use Rattle.fc_base.specs.declared.refusals.Place.{Place}
 use Rattle.fc_base.specs.declared.refusals.Refusal.{Refusal}
@@ -114,18 +114,30 @@ abbrev pub first_broken : List Check → Option Rule
 first_broken [] = None
 first_broken (check ∷ checks) = if check.1 then Some check.0 else first_broken checks
 
-abbrev pub by_rule : Place → Option Rule → Typing ⊤
-by_rule place None = pure tt
-by_rule place (Some rule) = λ s. Err (record { rule = rule; place = place })
+abbrev pub by_rule : {A : Type 0} → Place → Option Rule → A → Result A Refusal
+by_rule place None a = Ok a
+by_rule place (Some rule) a = Err (record { rule = rule; place = place })
 
--- the first of these that is broken refuses, at this place
+-- the first of these that is broken refuses, at this place; else the answer is the last
+abbrev pub judged : {A : Type 0} → Place → List Check → A → Result A Refusal
+judged place checks a = by_rule place (first_broken checks) a
+
+-- an answer that leaves the state as it is
+abbrev pub answered : {A : Type 0} → Result A Refusal → Typing A
+answered (Ok a) s = Ok (a, s)
+answered (Err refusal) s = Err refusal
+
 abbrev pub first : Place → List Check → Typing ⊤
-first place checks = by_rule place (first_broken checks)
+first place checks s = answered (judged place checks tt) s
 
 -- ---- reading and changing the state
 
 abbrev pub look : {A : Type 0} → (Scope → A) → Typing A
 look what s = Ok (what s.scope, s)
+
+-- an answer by the structures and unions so far
+abbrev pub by_tags : {A : Type 0} → (List TagDef → Result A Refusal) → Typing A
+by_tags what s = answered (what s.scope.tags) s
 
 abbrev pub change : (Scope → Scope) → Typing ⊤
 change what s = Ok (tt, record s { scope = what s.scope })
