@@ -78,7 +78,7 @@ getchar_took m (x ∷ []) old new k n long within some is small taken untold =
     (omega arith) (λ l. absurd (omega (arith, l))) is
 
 -- fewer bytes from an address that may be touched
-valid_fewer : (a n k : ℕ) → k ≤ n → are_valid a n ≡ true → are_valid a k ≡ true
+pub valid_fewer : (a n k : ℕ) → k ≤ n → are_valid a n ≡ true → are_valid a k ≡ true
 valid_fewer a n k within valid = go (eqb k 0) (eqb n 0) (leb first_valid a) (leb (a + n) memory_size) refl refl refl valid
   where
     go : (z t u v : Bool) → eqb k 0 ≡ z → eqb n 0 ≡ t → leb (a + n) memory_size ≡ v → t || (u && v) ≡ true → z || (u && leb (a + k) memory_size) ≡ true

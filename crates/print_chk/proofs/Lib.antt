@@ -1,3 +1,9 @@
+pub mod Apart
 pub mod Going
+pub mod Into
+pub mod Kept
 pub mod Parts
+pub mod Puts
+pub mod Read
 pub mod Shown
+pub mod Stores

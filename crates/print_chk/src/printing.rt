@@ -1,11 +1,11 @@
 //! Prints on a descriptor.
 
-ghost use Rattle.std.specs.Prelude.{◌≡◌, ◌+◌, ◌≤◌, ◌∷◌, ◌++◌, ℕ, List, [], true, length, drop, replicate, is_some, IsOk};
+ghost use Rattle.std.specs.Prelude.{◌≡◌, ◌≤◌, ◌∷◌, ℕ, true, length, replicate, is_some, IsOk};
 ghost use Rattle.run_meaning.specs.Objects.{stream};
 ghost use Rattle.library_meaning.specs.Rows.{run};
 ghost use Rattle.library_meaning.specs.Prints as prints;
 ghost use Rattle.library_meaning.specs.OnBytes.{on_bytes, quiet};
-ghost use Rattle.library_meaning.specs.Memory.{are_valid, bytes_at, memory_size};
+ghost use Rattle.library_meaning.specs.Memory.{memory_size};
 ghost use Rattle.library_meaning.specs.OnStreams.{Writes};
 ghost use Rattle.print_formats.specs.Formats.{directives_of};
 ghost use Rattle.print_texts.specs.Numbers.{sign_text};
@@ -13,13 +13,13 @@ ghost use Rattle.print_texts.specs.Paddings.{in_parts};
 ghost use Rattle.print_texts.specs.Printing.{conversion_length, conversion_text, listed, measured, shown};
 ghost use Rattle.print_chk.specs.Written.{Wrote};
 
+use crate::formats::read_format;
+use crate::pieces::{bytes, characters, sign_bytes, tail};
 use fc_base::Sink;
 use host_bytes::find;
 use library_meaning::HostStop;
 use print_formats::{Conversion, Specifier};
-use print_texts::{
-    Padding, Part, ROOM, accepts, argument, measure, most, next_part, padding_of, write_number,
-};
+use print_texts::{Padding, Part, ROOM, argument, most, next_part, padding_of, write_number};
 
 /// Writes bytes on the sink.
 fn put<S: Sink>(sink: &mut S, bytes: &[u8]) -> Result<(), HostStop>
@@ -46,28 +46,6 @@ fn repeat<S: Sink>(sink: &mut S, byte: u8, count: u64) -> Result<(), HostStop>
         }
     }
     put(sink, &piece[..left as usize])
-}
-
-fn sign_bytes(negative: bool) -> &'static [u8]
-    ensures { result.now ≡ sign_text negative }
-{
-    if negative { b"-" } else { b"" }
-}
-
-/// How many characters a number of so many digits has.
-fn characters(negative: bool, digits: u64) -> u64
-    requires { digits ≤ 22 }
-    ensures { result ≡ length (sign_text negative) + digits }
-{
-    if negative { 1 + digits } else { digits }
-}
-
-/// The bytes from a place on.
-fn tail(bytes: &[u8], start: usize) -> &[u8]
-    requires { start ≤ length bytes.now }
-    ensures { result.now ≡ drop start bytes.now }
-{
-    &bytes[start..]
 }
 
 /// Writes a sign and a body with their padding.
@@ -97,19 +75,6 @@ fn put_padded<S: Sink>(
         Err(stop) => return Err(stop),
     }
     repeat(sink, b' ', padding.behind)
-}
-
-/// So many bytes of memory from an address on.
-fn bytes(mem: &[u8], address: u64, count: u64) -> &[u8]
-    requires memory { length mem.now ≡ memory_size }
-    requires valid { are_valid address count ≡ true }
-    ensures { result.now ≡ bytes_at mem.now address count }
-{
-    if count == 0 {
-        return &[];
-    }
-    let start = address as usize;
-    &mem[start..start + count as usize]
 }
 
 /// Writes what a conversion prints of its argument.
@@ -205,20 +170,12 @@ pub fn print_out<S: Sink>(
         (run (on_bytes (descriptor ∷ format ∷ args.now)) (prints.print_on descriptor (length args.now) 1) mem.now quiet) result
         (stream (S.written sink.old) (S.count sink.old)) (stream (S.written sink.new) (S.count sink.new)) }
 {
-    let text = match find(mem, format, u64::MAX, 0) {
-        Ok(text) => text,
+    let format = match read_format(mem, format, args) {
+        Ok(format) => format,
         Err(stop) => return Err(stop),
     };
-    let format = bytes(mem, format, text.len);
-    if !accepts(format, args.len()) {
-        return Err(HostStop::BadFormat);
-    }
-    let length = match measure(mem, format, args) {
-        Ok(length) => length,
-        Err(stop) => return Err(stop),
-    };
-    match put_format(mem, sink, format, args) {
-        Ok(()) => Ok(length % (1 << 32)),
+    match put_format(mem, sink, bytes(mem, format.at, format.text.len), args) {
+        Ok(()) => Ok(format.length % (1 << 32)),
         Err(stop) => Err(stop),
     }
 }
