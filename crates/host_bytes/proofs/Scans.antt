@@ -103,7 +103,7 @@ module _ (stops : ℕ → Bool) (m : List ℕ) (a limit most : ℕ) (size : leng
   pub found_leaves : IsFirstByte stops (slice_range m a (a + most)) None → most ≢ limit → scanned ≡ Err host.BadAddress
   found_leaves first ne = over_is ∙ scan_leaves host.BadAddress stops (drop a m) limit (omega (arith, rest)) (λ j lt. no_one_at_all first j (omega (arith, rest)))
 
--- the same for one byte, which is then the one that was found
+-- a scan for one byte finds that byte
 pub found_byte : (byte : ℕ) (m : List ℕ) (a limit most k : ℕ) → length m ≡ memory_size → are_valid a 1 ≡ true → ((limit ≡ 0) → ⊥) → most ≡ min limit (memory_size - a)
     → IsFirstByte (is_byte byte) (slice_range m a (a + most)) (Some k)
     → (byte_scan byte m a limit ≡ Ok (record { before = bytes_at m a k; stop = Some byte })) × (bytes_at m a (k + 1) ≡ bytes_at m a k ++ byte ∷ []) × (k < most)

@@ -1,7 +1,7 @@
 -- The library's rows that print, each beside its function (C11 7.21.6, POSIX, glibc). `passed` is how many arguments follow the format,
 -- and `size` is the destination's size for a checked form, 2^64 - 1 for the plain form. A format is read whole before its arguments'
 -- bytes are. What is read to learn the request comes first, then the check, then the rest; nothing is shown before all is read.
-use Rattle.std.specs.Prelude.{ℕ, zero, suc, ◌+◌, ◌-◌, ◌==◌, nat_le, true, ◌||◌, List, [], ◌∷◌, ◌++◌, length, take, Option, None, Some, if◌then◌else◌}
+use Rattle.std.specs.Prelude.{ℕ, zero, suc, ◌+◌, ◌-◌, ◌==◌, nat_le, true, false, ◌||◌, List, [], ◌∷◌, ◌++◌, length, take, Option, None, Some, if◌then◌else◌}
 use Rattle.print_formats.specs.declared.conversions.Directive.{Directive}
 use Rattle.print_formats.specs.declared.conversions.Directive.TheVariants as directives
 use Rattle.print_formats.specs.declared.conversions.Options.{Options}
@@ -10,7 +10,7 @@ use Rattle.print_formats.specs.declared.conversions.Specifier.TheVariants as spe
 use Rattle.print_formats.specs.Formats.{directives_of, conversions_of}
 use Rattle.print_formats.specs.Texts.{number_text, character_text, string_text}
 use Rattle.library_meaning.specs.Scan.{Found}
-use Rattle.library_meaning.specs.Rows.{Row, Gives, Malformed, Ask, Text, Point, Show, Stretch, stretch, Given, Count}
+use Rattle.library_meaning.specs.Rows.{Row, Gives, Malformed, Check, Ask, Text, Point, Show, Stretch, stretch, Given, Count}
 use Rattle.library_meaning.specs.Table.{no_limit, minus_one, nul, within, cells_read, putting, int_of}
 
 -- so many operands, from one on
@@ -52,19 +52,19 @@ texts (directives.Ordinary b ∷ ds) i so from next = texts ds i (so ++ b ∷ []
 texts (directives.Converted c ∷ ds) i so from next =
     converted c.options c.specifier i (λ text reads. texts ds (i + 1) (so ++ text) (from ++ reads) next)
 
--- a format that is none, or has more conversions than arguments were passed, is malformed; each of the call's pointers is looked at
--- before a string is read
+-- A format that is none, or has more conversions than arguments were passed, is malformed. All pointers of the strings that are read
+-- are looked at before one is read, together with those of `also`: what else may not be dead, and what may not be null either
 abbrev pub formatted : ℕ → Option (List Directive) → ℕ → List ℕ × List ℕ → List Stretch → (List ℕ → List Stretch → Row) → Row
-formatted passed None i into from next = Malformed
-formatted passed (Some ds) i into from next =
+formatted passed None i also from next = Malformed
+formatted passed (Some ds) i also from next =
     if nat_le (length (conversions_of ds)) passed
-    then Point (into.0 ++ operands i passed) (into.1 ++ touched_strings ds i) (texts ds i [] from next)
+    then Point (also.0 ++ touched_strings ds i) (also.1 ++ touched_strings ds i) (texts ds i [] from next)
     else Malformed
 
--- a print whose format is operand i, with the pointer that it prints into, and that pointer where it will be touched
+-- a print whose format is operand i
 abbrev pub printed : ℕ → ℕ → List ℕ × List ℕ → (List ℕ → List Stretch → Row) → Row
-printed passed i into next =
-    Text nul (stretch i 0 no_limit) (λ f. formatted passed (directives_of f.before) (i + 1) into (stretch i 0 (cells_read f) ∷ []) next)
+printed passed i also next =
+    Text nul (stretch i 0 no_limit) (λ f. formatted passed (directives_of f.before) (i + 1) also (stretch i 0 (cells_read f) ∷ []) next)
 
 -- the length of a text, as an int
 abbrev pub length_given : List ℕ → Given
@@ -72,24 +72,29 @@ length_given text = Count (int_of (length text))
 
 -- a print on a descriptor, whose format is operand i
 abbrev pub print_on : ℕ → ℕ → ℕ → Row
-print_on descriptor passed i = printed passed i ([], []) (λ text from. Show descriptor text (Gives (length_given text)))
+print_on descriptor passed i =
+    printed passed i (operands (i + 1) passed, []) (λ text from. Show descriptor text (Gives (length_given text)))
 
 -- printf(f, ..): C11 7.21.6.3
 abbrev pub printf : ℕ → Row
-printf passed = print_on 1 passed 0
+printf passed = Check false (print_on 1 passed 0)
 
 -- dprintf(fd, f, ..): POSIX. Another descriptor than 1 and 2 gives -1
 abbrev pub dprintf : ℕ → Row
 dprintf passed =
-    Ask 0 (λ fd. if (int_of fd == 1) || (int_of fd == 2)
+    Check false (Ask 0 (λ fd. if (int_of fd == 1) || (int_of fd == 2)
     then print_on (int_of fd) passed 1
-    else Point (operands 1 (passed + 1)) [] (Gives minus_one))
+    else Point (operands 1 (passed + 1)) [] (Gives minus_one)))
 
--- sprintf(d, f, ..): C11 7.21.6.6, `__sprintf_chk`; the text with its NUL is the request
+-- sprintf(d, f, ..): C11 7.21.6.6, `__sprintf_chk`; the text with its NUL is the request, so the strings are read before the check,
+-- and all pointers of the call are looked at behind it
+abbrev pub whole_into : ℕ → ℕ → List ℕ → List Stretch → Row
+whole_into passed size text from =
+    within size (length text + 1) (Point (0 ∷ operands 2 passed) (0 ∷ [])
+    (putting true 0 (text ++ 0 ∷ []) from (Gives (length_given text))))
+
 abbrev pub sprintf : ℕ → ℕ → Row
-sprintf passed size =
-    printed passed 1 ([], []) (λ text from. within size (length text + 1) (Point (0 ∷ []) (0 ∷ [])
-    (putting true 0 (text ++ 0 ∷ []) from (Gives (length_given text)))))
+sprintf passed size = printed passed 1 ([], []) (whole_into passed size)
 
 -- snprintf(d, n, f, ..): C11 7.21.6.5, `__snprintf_chk`; n is the request, before the format is read
 abbrev pub cut_into : ℕ → List ℕ → List Stretch → Row
@@ -98,4 +103,4 @@ cut_into n text from =
 
 abbrev pub snprintf : ℕ → ℕ → Row
 snprintf passed size =
-    Ask 1 (λ n. within size n (printed passed 2 (0 ∷ [], if n == 0 then [] else 0 ∷ []) (cut_into n)))
+    Ask 1 (λ n. within size n (printed passed 2 (0 ∷ operands 3 passed, if n == 0 then [] else 0 ∷ []) (cut_into n)))

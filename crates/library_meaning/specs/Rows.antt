@@ -37,7 +37,8 @@ pub data Row : Type 0 where
   -- the call ends
   Gives : (value : Given) → Row
   Malformed : Row
-  -- the check of a call: it exceeds, or goes on. At most one comes in a call
+  -- the check of a call: it exceeds, or goes on. Every call comes to exactly one, unless it stops before: behind the acts that tell
+  -- its request, or first of all where nothing is requested
   Check : (exceeds : Bool) → (next : Row) → Row
   -- an operand's number
   Ask : (operand : ℕ) → (next : ℕ → Row) → Row
@@ -108,7 +109,7 @@ run side (Store i k what next) m w = and_then (side.store m i k what) (λ l. run
 run side (Show d bs next) m w = run side next m (showing w d bs)
 run side (Take n next) m w = run side (next (take n w.input.bytes)) m (taking w n)
 
--- whether a call exceeds: its check, where one comes
+-- whether a call exceeds: what its check says, where no act before it stops the call
 abbrev pub request : {M E : Type 0} → Side M E → Row → M → World → Result Bool E
 request side (Gives g) m w = Ok false
 request side Malformed m w = Err side.bad_format

@@ -1,6 +1,7 @@
 -- The library's rows that move bytes, each beside its function (C11 7.24, POSIX, glibc). `size` is the destination's size for a
 -- checked form (glibc's `__memcpy_chk` and its kin), and 2^64 - 1 for the plain form, which no request exceeds. Operands are
--- numbered from 0. What is read to learn the request comes first, then the check, then the rest.
+-- numbered from 0. What is read to learn the request comes first, then the check, then the rest. The row of a function without a
+-- checked form begins with a check that never exceeds.
 use Rattle.std.specs.Prelude.{ℕ, ◌+◌, ◌-◌, ◌^◌, ◌%◌, Bool, true, false, ◌||◌, List, [], ◌∷◌, ◌++◌, length, take, drop, replicate, min, Option, None, Some, eqb, ltb, if◌then◌else◌}
 use Rattle.library_meaning.specs.Scan.{Found, Pair}
 use Rattle.library_meaning.specs.Rows.{Row, Gives, Check, Ask, Text, Bytes, Both, Point, Touch, Apart, Store, Show, Take, Stretch, stretch, Touched, These, Cells, Given, Count, Behind, Forgot, Nowhere}
@@ -80,7 +81,9 @@ order_of (x ∷ xs) (y ∷ ys) = if eqb x y then order_of xs ys else order x y
 
 -- memcmp(a, b, n): C11 7.24.4.1
 abbrev pub memcmp : Row
-memcmp = Ask 2 (λ n. Bytes (stretch 0 0 n ∷ stretch 1 0 n ∷ []) (λ bytes. Gives (Count (order_of (take n bytes) (drop n bytes)))))
+memcmp =
+    Check false (Ask 2 (λ n. Bytes (stretch 0 0 n ∷ stretch 1 0 n ∷ []) (λ bytes.
+    Gives (Count (order_of (take n bytes) (drop n bytes))))))
 
 -- the place of a byte that a scan looked for
 abbrev pub place_of : ℕ → Found → Given
@@ -88,15 +91,17 @@ place_of wanted f = elim f.stop [ None ↦ Nowhere | Some byte ↦ (if eqb byte 
 
 -- strchr(s, c): C11 7.24.5.2
 abbrev pub strchr : Row
-strchr = Ask 1 (λ c. Text (λ byte. eqb byte 0 || eqb byte (c % 256)) (stretch 0 0 no_limit) (λ f. Gives (place_of (c % 256) f)))
+strchr =
+    Check false (Ask 1 (λ c. Text (λ byte. eqb byte 0 || eqb byte (c % 256)) (stretch 0 0 no_limit) (λ f.
+    Gives (place_of (c % 256) f))))
 
 -- strlen(s): C11 7.24.6.3
 abbrev pub strlen : Row
-strlen = Text nul (stretch 0 0 no_limit) (λ f. Gives (Count (length f.before)))
+strlen = Check false (Text nul (stretch 0 0 no_limit) (λ f. Gives (Count (length f.before))))
 
 -- strcmp(a, b): C11 7.24.4.2
 abbrev pub strcmp : Row
-strcmp = Both 0 1 (λ p. Gives (Count (order p.left p.right)))
+strcmp = Check false (Both 0 1 (λ p. Gives (Count (order p.left p.right))))
 
 -- strcpy(d, s): C11 7.24.2.3, `__strcpy_chk`; stpcpy(d, s): POSIX, `__stpcpy_chk`
 abbrev pub strcpy_giving : (ℕ → Given) → ℕ → Row
@@ -138,11 +143,13 @@ int_of n = n % 2 ^ 32
 
 -- puts(s): C11 7.21.7.9
 abbrev pub puts : Row
-puts = Text nul (stretch 0 0 no_limit) (λ s. Show 1 (s.before ++ 10 ∷ []) (Gives (Count (int_of (length s.before + 1)))))
+puts =
+    Check false (Text nul (stretch 0 0 no_limit) (λ s.
+    Show 1 (s.before ++ 10 ∷ []) (Gives (Count (int_of (length s.before + 1))))))
 
 -- putchar(c): C11 7.21.7.8
 abbrev pub putchar : Row
-putchar = Ask 0 (λ c. Show 1 (c % 256 ∷ []) (Gives (Count (c % 256))))
+putchar = Check false (Ask 0 (λ c. Show 1 (c % 256 ∷ []) (Gives (Count (c % 256)))))
 
 -- the byte that was got, or -1 at the end
 abbrev pub got : List ℕ → Given
@@ -151,7 +158,7 @@ got (byte ∷ rest) = Count byte
 
 -- getchar(): C11 7.21.7.6
 abbrev pub getchar : Row
-getchar = Take 1 (λ bytes. Gives (got bytes))
+getchar = Check false (Take 1 (λ bytes. Gives (got bytes)))
 
 -- read(fd, d, n): POSIX, `__read_chk`. All n bytes must be there before any is taken. Another descriptor gives -1
 abbrev pub read_from_input : ℕ → Row
@@ -169,6 +176,6 @@ write_on descriptor = Ask 2 (λ n. Bytes (stretch 1 0 n ∷ []) (λ bytes. Show 
 
 abbrev pub write : Row
 write =
-    Ask 0 (λ fd. if eqb (int_of fd) 1 || eqb (int_of fd) 2
+    Check false (Ask 0 (λ fd. if eqb (int_of fd) 1 || eqb (int_of fd) 2
     then write_on (int_of fd)
-    else Point (1 ∷ []) [] (Gives minus_one))
+    else Point (1 ∷ []) [] (Gives minus_one)))

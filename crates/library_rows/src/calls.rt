@@ -37,6 +37,7 @@ pub enum Answer {
     Number(u64),
     Overflow,
     BadAddress,
+    BadFormat,
 }
 
 /// A place, the bytes there before the call, the call, its answer, and the bytes there after it.
@@ -97,6 +98,7 @@ pub fn answers(found: Result<u64, HostStop>, at: u64, wanted: Answer) -> bool {
         (Ok(n), Answer::Number(k)) => n == k,
         (Err(HostStop::Overflow), Answer::Overflow) => true,
         (Err(HostStop::BadAddress), Answer::BadAddress) => true,
+        (Err(HostStop::BadFormat), Answer::BadFormat) => true,
         _ => false,
     }
 }

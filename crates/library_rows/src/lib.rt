@@ -11,6 +11,10 @@ mod memory;
 #[cfg(test)]
 mod moving;
 #[cfg(test)]
+mod prints;
+#[cfg(test)]
+mod prints_apart;
+#[cfg(test)]
 mod streams;
 #[cfg(test)]
 mod texts;

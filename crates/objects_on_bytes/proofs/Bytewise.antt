@@ -1,17 +1,19 @@
 -- Each row of the table stores bytes where it reads bytes.
-use Rattle.std.proofs.Common.{ℕ, zero, suc, ◌%◌, ◌<◌, Bool, true, false, List, [], ◌∷◌, ◌++◌, take, replicate, Option, None, Some, arith}
+use Rattle.std.proofs.Common.{ℕ, zero, suc, ◌%◌, ◌<◌, Bool, List, [], ◌∷◌, ◌++◌, take, replicate, arith}
 use Rattle.std.specs.Prelude.{if◌then◌else◌}
 use Rattle.run_meaning.specs.Worlds.{AreBytes}
-use Rattle.library_meaning.specs.Rows.{Row, Check, Gives, Nowhere}
+use Rattle.library_meaning.specs.Rows.{Row}
 use Rattle.library_meaning.specs.Scan.{Found}
 use Rattle.library_meaning.specs.Table.{ended}
+use Rattle.library_meaning.proofs.Ended.{ended_keeps}
+use Rattle.library_meaning.proofs.Printed.{if_keeps}
 use Rattle.objects_on_bytes.specs.Rows.{IsBytewise}
 
-bytes_append : (xs ys : List ℕ) → AreBytes xs → AreBytes ys → AreBytes (xs ++ ys)
+pub bytes_append : (xs ys : List ℕ) → AreBytes xs → AreBytes ys → AreBytes (xs ++ ys)
 bytes_append [] ys h k = k
 bytes_append (x ∷ xs) ys h k = (h.0, bytes_append xs ys h.1 k)
 
-bytes_replicate : (n b : ℕ) → b < 256 → AreBytes (replicate n b)
+pub bytes_replicate : (n b : ℕ) → b < 256 → AreBytes (replicate n b)
 bytes_replicate zero b l = tt
 bytes_replicate (suc n) b l = (l, bytes_replicate n b l)
 
@@ -24,15 +26,10 @@ nul_byte : AreBytes (0 ∷ [])
 nul_byte = (omega arith, tt)
 
 pub if_bytewise : (t : Bool) (a b : Row) → IsBytewise a → IsBytewise b → IsBytewise (if t then a else b)
-if_bytewise true a b h k = h
-if_bytewise false a b h k = k
+if_bytewise = if_keeps IsBytewise
 
 pub ended_bytewise : (f : Found) (next : Row) → IsBytewise next → IsBytewise (ended f next)
-ended_bytewise f next h = go f.stop
-  where
-    go : (o : Option ℕ) → IsBytewise (elim o [ None ↦ Check true (Gives Nowhere) | Some b ↦ next ])
-    go None = tt
-    go (Some b) = h
+ended_bytewise f next h = ended_keeps IsBytewise f next tt h
 
 pub memset_bytewise : (c n : ℕ) → AreBytes (replicate n (c % 256))
 memset_bytewise c n = bytes_replicate n (c % 256) (omega arith)

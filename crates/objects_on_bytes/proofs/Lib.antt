@@ -1,6 +1,10 @@
 mod Acts
 mod Bytewise
 mod Follow
+mod Overflows
+mod Printing
+mod Results
 mod RowLaws
 mod Stores
+mod Tables
 mod Whole

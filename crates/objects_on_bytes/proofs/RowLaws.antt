@@ -1,10 +1,23 @@
 -- Laws of rows over any memory.
-use Rattle.std.proofs.Common.{◌≡◌, Bool, true, false, Result, Ok, Err, refl}
+use Rattle.std.proofs.Common.{◌≡◌, ◌≢◌, ℕ, Bool, true, false, List, Result, Ok, Err, refl}
 use Rattle.std.specs.Prelude.{IfOk, if◌then◌else◌}
 use Rattle.run_meaning.specs.Worlds.{World}
-use Rattle.library_meaning.specs.Rows.{Row, Gives, Malformed, Check, Ask, Text, Bytes, Both, Point, Touch, Apart, Store, Show, Take, Side, Answer, showing, taking}
+use Rattle.library_meaning.specs.Properties.{NeverChecks}
+use Rattle.library_meaning.specs.Rows.{Row, Gives, Malformed, Check, Ask, Text, Bytes, Both, Point, Touch, Apart, Store, Show, Take, Side, Stretch, Touched, Stored, Answer, run, request, showing, taking}
 use Rattle.library_meaning.specs.Scan.{and_then}
-use Rattle.objects_on_bytes.specs.Rows.{in_world, Exceeds, StopsAsAsked, LeavesWorld, RowLaws}
+use Rattle.objects_on_bytes.specs.Rows.{in_world, Exceeds, OnlyExceeding, StopsAsAsked, LeavesWorld, RowLaws}
+
+-- no act ends with the overflow
+pub record NoActOverflows {M E : Type 0} (side : Side M E) : Type 0 where
+  pub number : (i : ℕ) → side.number i ≢ Err side.overflow
+  pub text : (m : M) (stops : ℕ → Bool) (from : Stretch) → side.text m stops from ≢ Err side.overflow
+  pub bytes : (m : M) (from : List Stretch) → side.bytes m from ≢ Err side.overflow
+  pub both : (m : M) (a b : ℕ) → side.both m a b ≢ Err side.overflow
+  pub point : (m : M) (pointers touched : List ℕ) → side.point m pointers touched ≢ Err side.overflow
+  pub touch : (m : M) (all : List Touched) → side.touch m all ≢ Err side.overflow
+  pub apart : (m : M) (strict : Bool) (to : Stretch) (from : List Stretch) → side.apart m strict to from ≢ Err side.overflow
+  pub store : (m : M) (i k : ℕ) (what : Stored) → side.store m i k what ≢ Err side.overflow
+  pub format : side.bad_format ≢ side.overflow
 
 on_ok : {X A E : Type 0} (r : Result X E) (f : X → Result Bool E) (g : X → Result A E) (e : E) → ((x : X) → IfOk (f x) (λ t. t ≡ true → g x ≡ Err e)) → IfOk (and_then r f) (λ t. t ≡ true → and_then r g ≡ Err e)
 on_ok (Ok x) f g e h = h x
@@ -68,5 +81,47 @@ module _ (M E : Type 0) (side : Side M E) where
   silent_is (Show d bs next) m w = λ s. absurd s
   silent_is (Take n next) m w = λ s. absurd s
 
-  pub row_laws : (row : Row) (m : M) (w : World) → RowLaws side row m w
-  row_laws row m w = record { exceeds = exceeds_is row m w; stops = stops_is row m w; silent = silent_is row m w }
+  -- ---- where no act gives the overflow itself
+
+  module _ (acts : NoActOverflows side) where
+    past : {X A : Type 0} (r : Result X E) (f : X → Result A E) → r ≢ Err side.overflow → ((x : X) → f x ≢ Err side.overflow) → and_then r f ≢ Err side.overflow
+    past (Ok x) f h k = k x
+    past (Err e) f h k = λ q. h (cc)
+
+    past_ok : {X A : Type 0} (r : Result X E) (f : X → Result A E) (g : X → Result Bool E) → r ≢ Err side.overflow → ((x : X) → f x ≡ Err side.overflow → g x ≡ Ok true) → and_then r f ≡ Err side.overflow → and_then r g ≡ Ok true
+    past_ok (Ok x) f g h k = k x
+    past_ok (Err e) f g h k = λ q. absurd (h (cc))
+
+    never : (row : Row) (m : M) (w : World) → NeverChecks row → run side row m w ≢ Err side.overflow
+    never (Gives g) m w n = λ q. absurd (cc)
+    never Malformed m w n = λ q. acts.format (cc)
+    never (Check t next) m w n = absurd n
+    never (Ask i next) m w n = past (side.number i) _ (acts.number i) (λ x. never (next x) m w (n x))
+    never (Text stops from next) m w n = past (side.text m stops from) _ (acts.text m stops from) (λ f. never (next f) m w (n f))
+    never (Bytes from next) m w n = past (side.bytes m from) _ (acts.bytes m from) (λ bs. never (next bs) m w (n bs))
+    never (Both a b next) m w n = past (side.both m a b) _ (acts.both m a b) (λ p. never (next p) m w (n p))
+    never (Point pointers touched next) m w n = past (side.point m pointers touched) _ (acts.point m pointers touched) (λ k. never next k w n)
+    never (Touch all next) m w n = past (side.touch m all) _ (acts.touch m all) (λ k. never next k w n)
+    never (Apart strict to from next) m w n = past (side.apart m strict to from) _ (acts.apart m strict to from) (λ k. never next k w n)
+    never (Store i k what next) m w n = past (side.store m i k what) _ (acts.store m i k what) (λ l. never next l w n)
+    never (Show d bs next) m w n = never next m (showing w d bs) n
+    never (Take c next) m w n = never (next _) m (taking w c) (n _)
+
+    only_is : (row : Row) (m : M) (w : World) → OnlyExceeding side row m w
+    only_is (Gives g) m w = λ c. absurd c
+    only_is Malformed m w = λ c q. absurd (acts.format (cc))
+    only_is (Check true next) m w = λ c q. refl
+    only_is (Check false next) m w = λ c q. absurd (never next m w c q)
+    only_is (Ask i next) m w = λ c. past_ok (side.number i) _ _ (acts.number i) (λ x. only_is (next x) m w (c x))
+    only_is (Text stops from next) m w = λ c. past_ok (side.text m stops from) _ _ (acts.text m stops from) (λ f. only_is (next f) m w (c f))
+    only_is (Bytes from next) m w = λ c. past_ok (side.bytes m from) _ _ (acts.bytes m from) (λ bs. only_is (next bs) m w (c bs))
+    only_is (Both a b next) m w = λ c. past_ok (side.both m a b) _ _ (acts.both m a b) (λ p. only_is (next p) m w (c p))
+    only_is (Point pointers touched next) m w = λ c. past_ok (side.point m pointers touched) _ _ (acts.point m pointers touched) (λ k. only_is next k w c)
+    only_is (Touch all next) m w = λ c. absurd c
+    only_is (Apart strict to from next) m w = λ c. absurd c
+    only_is (Store i k what next) m w = λ c. absurd c
+    only_is (Show d bs next) m w = λ c. absurd c
+    only_is (Take n next) m w = λ c. absurd c
+
+    pub row_laws : (row : Row) (m : M) (w : World) → RowLaws side row m w
+    row_laws row m w = record { exceeds = exceeds_is row m w; only = only_is row m w; stops = stops_is row m w; silent = silent_is row m w }

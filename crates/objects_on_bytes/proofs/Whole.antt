@@ -46,6 +46,31 @@ bytes_drop (suc n) (b ∷ bs) h = bytes_drop n bs h.1
 then_same : (old mid new : List Object) → SameObjects old mid → SameObjects mid new → SameObjects old new
 then_same old mid new h k = record { live = λ o. k.live o ∙ h.live o; sizes = λ o. k.sizes o ∙ h.sizes o; count = k.count ∙ h.count }
 
+-- a place behind an operand, and the same of which nothing is known
+behind_follows : (at : ℕ → ℕ) (alive : ℕ → Bool) (x : Value) (r k : ℕ) → ValueIs at alive x r → ValueIs at alive (behind x k) (r + k)
+behind_follows at alive (value.Int n) r k h = tt
+behind_follows at alive value.Uninit r k h = tt
+behind_follows at alive value.Nothing r k h = tt
+behind_follows at alive (value.Pointer (Null c)) r k h = null_behind (eqb k 0) refl
+  where
+    null_behind : (t : Bool) → eqb k 0 ≡ t → ValueIs at alive (if t then value.Pointer (Null c) else value.Uninit) (r + k)
+    null_behind true e = let z = eqb-true k 0 e in omega (arith, z, h)
+    null_behind false e = tt
+behind_follows at alive (value.Pointer (At p)) r k h = λ l. let e = h l in omega (arith, ints, e)
+
+forgotten_follows : (at : ℕ → ℕ) (alive : ℕ → Bool) (x : Value) (r : ℕ) → ValueIs at alive x r → ValueIs at alive (forgotten x) r
+forgotten_follows at alive (value.Int n) r h = h
+forgotten_follows at alive value.Uninit r h = tt
+forgotten_follows at alive value.Nothing r h = tt
+forgotten_follows at alive (value.Pointer (Null c)) r h = h
+forgotten_follows at alive (value.Pointer (At p)) r h = h
+
+given_follows : (at : ℕ → ℕ) (alive : ℕ → Bool) (args : List Value) (numbers : List ℕ) (g : Given) → ValuesAre at alive args numbers → ValueIs at alive (value_of args g) (number_of numbers g)
+given_follows at alive args numbers (Count n) v = refl
+given_follows at alive args numbers (Behind i k) v = behind_follows at alive (operand args i) (get_or numbers i 0) k (v i)
+given_follows at alive args numbers (Forgot i k) v = forgotten_follows at alive (behind (operand args i) k) (get_or numbers i 0 + k) (behind_follows at alive (operand args i) (get_or numbers i 0) k (v i))
+given_follows at alive args numbers Nowhere v = refl
+
 abbrev IsSame : Bool → Bool → Type 0
 IsSame x y = y ≡ x
 
@@ -53,36 +78,36 @@ module _ (at : ℕ → ℕ) (args : List Value) (numbers : List ℕ) where
   abbrev Stay : List Object → List ℕ → List Object → List ℕ → Type 0
   Stay objs m new bytes = (new ≡ objs) × (bytes ≡ m)
 
-  pub row_follows : (row : Row) (objs : List Object) (m : List ℕ) (w : World) → Memories at objs m → ValuesAre at (is_live objs) args numbers → AreBytes w.input.bytes → IsBytewise row → Leads (EndedAlike at objs) (run (on_objects args) row objs w) (run (on_bytes numbers) row m w)
-  row_follows (Gives g) objs m w k v i b = (answer m w g, refl, record { memories = k; same = record { live = λ q. refl; sizes = λ q. refl; count = refl }; world = refl; given = refl })
+  pub row_follows : (row : Row) (objs : List Object) (m : List ℕ) (w : World) → Memories at objs m → ValuesAre at (is_live objs) args numbers → AreBytes w.input.bytes → IsBytewise row → Leads (EndedAlike at args numbers objs) (run (on_objects args) row objs w) (run (on_bytes numbers) row m w)
+  row_follows (Gives g) objs m w k v i b = (answer m w g, refl, record { memories = k; same = record { live = λ q. refl; sizes = λ q. refl; count = refl }; world = refl; result = given_follows at (is_live objs) args numbers g v })
   row_follows Malformed objs m w k v i b = refl
-  row_follows (Check exceeds next) objs m w k v i b = leads_if (EndedAlike at objs) exceeds (Err Overflow) _ (Err host.Overflow) _ refl (row_follows next objs m w k v i b)
+  row_follows (Check exceeds next) objs m w k v i b = leads_if (EndedAlike at args numbers objs) exceeds (Err Overflow) _ (Err host.Overflow) _ refl (row_follows next objs m w k v i b)
   row_follows (Ask j next) objs m w k v i b =
-      leads_act NumberIs (EndedAlike at objs) (as_number (operand args j)) (Ok (get_or numbers j 0)) _ _ (number_follows at (is_live objs) (operand args j) (get_or numbers j 0) (v j))
-      (λ x y e. subst (λ z. Leads (EndedAlike at objs) (run (on_objects args) (next x) objs w) (run (on_bytes numbers) (next z) m w)) (sym e) (row_follows (next x) objs m w k v i (b x)))
+      leads_act NumberIs (EndedAlike at args numbers objs) (as_number (operand args j)) (Ok (get_or numbers j 0)) _ _ (number_follows at (is_live objs) (operand args j) (get_or numbers j 0) (v j))
+      (λ x y e. subst (λ z. Leads (EndedAlike at args numbers objs) (run (on_objects args) (next x) objs w) (run (on_bytes numbers) (next z) m w)) (sym e) (row_follows (next x) objs m w k v i (b x)))
   row_follows (Text stops from next) objs m w k v i b =
-      leads_act FoundIs (EndedAlike at objs) (text_from args objs stops from) _ _ _ (text_follows at objs m k args numbers v stops from)
-      (λ x y p. subst (λ z. Leads (EndedAlike at objs) (run (on_objects args) (next x) objs w) (run (on_bytes numbers) (next z) m w)) (sym p.0) (row_follows (next x) objs m w k v i (b x p.1)))
+      leads_act FoundIs (EndedAlike at args numbers objs) (text_from args objs stops from) _ _ _ (text_follows at objs m k args numbers v stops from)
+      (λ x y p. subst (λ z. Leads (EndedAlike at args numbers objs) (run (on_objects args) (next x) objs w) (run (on_bytes numbers) (next z) m w)) (sym p.0) (row_follows (next x) objs m w k v i (b x p.1)))
   row_follows (Bytes from next) objs m w k v i b =
-      leads_act BytesAre (EndedAlike at objs) (bytes_from args objs from) _ _ _ (bytes_follow at objs m k args numbers v from)
-      (λ x y p. subst (λ z. Leads (EndedAlike at objs) (run (on_objects args) (next x) objs w) (run (on_bytes numbers) (next z) m w)) (sym p.0) (row_follows (next x) objs m w k v i (b x p.1)))
+      leads_act BytesAre (EndedAlike at args numbers objs) (bytes_from args objs from) _ _ _ (bytes_follow at objs m k args numbers v from)
+      (λ x y p. subst (λ z. Leads (EndedAlike at args numbers objs) (run (on_objects args) (next x) objs w) (run (on_bytes numbers) (next z) m w)) (sym p.0) (row_follows (next x) objs m w k v i (b x p.1)))
   row_follows (Both l r next) objs m w k v i b =
-      leads_act PairIs (EndedAlike at objs) (both_from args objs l r) _ _ _ (both_follows at objs m k args numbers v l r)
-      (λ x y e. subst (λ z. Leads (EndedAlike at objs) (run (on_objects args) (next x) objs w) (run (on_bytes numbers) (next z) m w)) (sym e) (row_follows (next x) objs m w k v i (b x)))
+      leads_act PairIs (EndedAlike at args numbers objs) (both_from args objs l r) _ _ _ (both_follows at objs m k args numbers v l r)
+      (λ x y e. subst (λ z. Leads (EndedAlike at args numbers objs) (run (on_objects args) (next x) objs w) (run (on_bytes numbers) (next z) m w)) (sym e) (row_follows (next x) objs m w k v i (b x)))
   row_follows (Point pointers touched next) objs m w k v i b =
-      leads_act (Stay objs m) (EndedAlike at objs) (tested (point_tests args objs pointers touched) (Ok objs)) (Ok m) (λ o. run (on_objects args) next o w) (λ o. run (on_bytes numbers) next o w) (point_follows at objs m k args numbers v pointers touched)
+      leads_act (Stay objs m) (EndedAlike at args numbers objs) (tested (point_tests args objs pointers touched) (Ok objs)) (Ok m) (λ o. run (on_objects args) next o w) (λ o. run (on_bytes numbers) next o w) (point_follows at objs m k args numbers v pointers touched)
       (λ x y p. rw (p.0, p.1) (row_follows next objs m w k v i b))
   row_follows (Touch all next) objs m w k v i b =
-      leads_act (Stay objs m) (EndedAlike at objs) (tested (touched_tests args objs all) (Ok objs)) (valid_then (all_valid numbers all) m) (λ o. run (on_objects args) next o w) (λ o. run (on_bytes numbers) next o w) (touch_follows at objs m k args numbers v all)
+      leads_act (Stay objs m) (EndedAlike at args numbers objs) (tested (touched_tests args objs all) (Ok objs)) (valid_then (all_valid numbers all) m) (λ o. run (on_objects args) next o w) (λ o. run (on_bytes numbers) next o w) (touch_follows at objs m k args numbers v all)
       (λ x y p. rw (p.0, p.1) (row_follows next objs m w k v i b))
   row_follows (Apart strict to from next) objs m w k v i b =
-      leads_act (Stay objs m) (EndedAlike at objs) (tested (apart_tests args objs to from) (Ok objs)) (valid_then (not (strict && meets_any numbers to from)) m) (λ o. run (on_objects args) next o w) (λ o. run (on_bytes numbers) next o w) (apart_follows at objs m k args numbers v strict to from)
+      leads_act (Stay objs m) (EndedAlike at args numbers objs) (tested (apart_tests args objs to from) (Ok objs)) (valid_then (not (strict && meets_any numbers to from)) m) (λ o. run (on_objects args) next o w) (λ o. run (on_bytes numbers) next o w) (apart_follows at objs m k args numbers v strict to from)
       (λ x y p. rw (p.0, p.1) (row_follows next objs m w k v i b))
   row_follows (Store j o what next) objs m w k v i b =
-      leads_act (KeptIs at objs m k args numbers v) (EndedAlike at objs) (store_at args objs j o what) (flat_store numbers m j o what) (λ o. run (on_objects args) next o w) (λ o. run (on_bytes numbers) next o w) (store_follows at objs m k args numbers v j o what b.0)
+      leads_act (KeptIs at objs m k args numbers v) (EndedAlike at args numbers objs) (store_at args objs j o what) (flat_store numbers m j o what) (λ o. run (on_objects args) next o w) (λ o. run (on_bytes numbers) next o w) (store_follows at objs m k args numbers v j o what b.0)
       (λ x y p.
-      leads_more (EndedAlike at x) (EndedAlike at objs) _ _
-      (λ c d e. record { memories = e.memories; same = then_same objs x c.memory p.kept.same e.same; world = e.world; given = e.given })
+      leads_more (EndedAlike at args numbers x) (EndedAlike at args numbers objs) _ _
+      (λ c d e. record { memories = e.memories; same = then_same objs x c.memory p.kept.same e.same; world = e.world; result = e.result })
       (row_follows next x y w (record { corresponds = p.kept.corresponds; is_memory = p.kept.is_memory; size = p.long }) (λ q. value_kept at (is_live objs) (is_live x) (operand args q) (get_or numbers q 0) p.kept.same.live (v q)) i b.1))
   row_follows (Show d bs next) objs m w k v i b = row_follows next objs m (showing w d bs) k v i b
   row_follows (Take n next) objs m w k v i b = row_follows (next (take n w.input.bytes)) objs m (taking w n) k v (bytes_drop n w.input.bytes i) (b (take n w.input.bytes) (bytes_take n w.input.bytes i))
@@ -117,28 +142,3 @@ module _ (at : ℕ → ℕ) (args : List Value) (numbers : List ℕ) where
       (λ x y p. asked_follows next x y w (record { corresponds = p.kept.corresponds; is_memory = p.kept.is_memory; size = p.long }) (λ q. value_kept at (is_live objs) (is_live x) (operand args q) (get_or numbers q 0) p.kept.same.live (v q)) i b.1)
   asked_follows (Show d bs next) objs m w k v i b = asked_follows next objs m (showing w d bs) k v i b
   asked_follows (Take n next) objs m w k v i b = asked_follows (next (take n w.input.bytes)) objs m (taking w n) k v (bytes_drop n w.input.bytes i) (b (take n w.input.bytes) (bytes_take n w.input.bytes i))
-
--- a place behind an operand, and the same of which nothing is known
-behind_follows : (at : ℕ → ℕ) (alive : ℕ → Bool) (x : Value) (r k : ℕ) → ValueIs at alive x r → ValueIs at alive (behind x k) (r + k)
-behind_follows at alive (value.Int n) r k h = tt
-behind_follows at alive value.Uninit r k h = tt
-behind_follows at alive value.Nothing r k h = tt
-behind_follows at alive (value.Pointer (Null c)) r k h = null_behind (eqb k 0) refl
-  where
-    null_behind : (t : Bool) → eqb k 0 ≡ t → ValueIs at alive (if t then value.Pointer (Null c) else value.Uninit) (r + k)
-    null_behind true e = let z = eqb-true k 0 e in omega (arith, z, h)
-    null_behind false e = tt
-behind_follows at alive (value.Pointer (At p)) r k h = λ l. let e = h l in omega (arith, ints, e)
-
-forgotten_follows : (at : ℕ → ℕ) (alive : ℕ → Bool) (x : Value) (r : ℕ) → ValueIs at alive x r → ValueIs at alive (forgotten x) r
-forgotten_follows at alive (value.Int n) r h = h
-forgotten_follows at alive value.Uninit r h = tt
-forgotten_follows at alive value.Nothing r h = tt
-forgotten_follows at alive (value.Pointer (Null c)) r h = h
-forgotten_follows at alive (value.Pointer (At p)) r h = h
-
-pub given_follows : (at : ℕ → ℕ) (alive : ℕ → Bool) (args : List Value) (numbers : List ℕ) (g : Given) → ValuesAre at alive args numbers → ValueIs at alive (value_of args g) (number_of numbers g)
-given_follows at alive args numbers (Count n) v = refl
-given_follows at alive args numbers (Behind i k) v = behind_follows at alive (operand args i) (get_or numbers i 0) k (v i)
-given_follows at alive args numbers (Forgot i k) v = forgotten_follows at alive (behind (operand args i) k) (get_or numbers i 0 + k) (behind_follows at alive (operand args i) (get_or numbers i 0) k (v i))
-given_follows at alive args numbers Nowhere v = refl

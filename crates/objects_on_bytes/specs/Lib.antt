@@ -1,4 +1,3 @@
 pub mod Calls
 pub mod Relation
 pub mod Rows
-pub mod Tables

@@ -2,6 +2,7 @@
 use Rattle.std.specs.Prelude.{◌≡◌, ℕ, true, List, Result, Ok, Err, IfOk, ⊤}
 use Rattle.run_meaning.specs.Worlds.{AreBytes, World}
 use Rattle.library_meaning.specs.OnBytes.{quiet, on_bytes}
+use Rattle.library_meaning.specs.Properties.{ChecksOnce}
 use Rattle.library_meaning.specs.Rows.{Row, Gives, Malformed, Check, Ask, Text, Bytes, Both, Point, Touch, Apart, Store, Show, Take, Stored, These, Cells, Side, Answer, answer, run, request}
 use Rattle.library_meaning.specs.Scan.{Found, Pair}
 use Rattle.object_meaning.specs.Objects.{Object}
@@ -56,12 +57,17 @@ Exceeds side row m w = IfOk (request side row m w) (λ exceeds. exceeds ≡ true
 abbrev pub StopsAsAsked : {M E : Type 0} → Side M E → Row → M → World → Type 0
 StopsAsAsked {M} {E} side row m w = (e : E) → request side row m w ≡ Err e → run side row m w ≡ Err e
 
+-- and only a call whose request exceeds ends with the overflow
+abbrev pub OnlyExceeding : {M E : Type 0} → Side M E → Row → M → World → Type 0
+OnlyExceeding side row m w = ChecksOnce row → run side row m w ≡ Err side.overflow → request side row m w ≡ Ok true
+
 -- a silent call leaves the world alone, and does not look at it
 abbrev pub LeavesWorld : {M E : Type 0} → Side M E → Row → M → World → Type 0
 LeavesWorld side row m w = IsSilent row → run side row m w ≡ in_world w (run side row m quiet)
 
 pub record RowLaws {M E : Type 0} (side : Side M E) (row : Row) (m : M) (w : World) : Type 0 where
   pub exceeds : Exceeds side row m w
+  pub only : OnlyExceeding side row m w
   pub stops : StopsAsAsked side row m w
   pub silent : LeavesWorld side row m w
 
