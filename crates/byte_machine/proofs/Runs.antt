@@ -4,7 +4,7 @@ use Rattle.fc_base.specs.declared.levels.End.{End}
 use Rattle.fc_base.specs.declared.levels.End.TheVariants as ends
 use Rattle.run_meaning.specs.Runs.{Shown, on_descriptor, bytes_on}
 use Rattle.run_meaning.specs.Events.{overflow_line}
-use Rattle.run_meaning.specs.Worlds.{Input}
+use Rattle.run_meaning.specs.Worlds.{Input, World}
 use Rattle.run_meaning.specs.Objects.{Streams, Offers, Moves, MovesUpTo, NoneFell}
 use Rattle.run_meaning.specs.declared.streams.Stream.{Stream}
 use Rattle.run_meaning.specs.declared.streams.Stream.TheVariants.{Input as OfInput, Out as OfOut, Err as OfErr}
@@ -25,6 +25,7 @@ use Rattle.byte_machine.proofs.Worlds.{carried_to, shown_before, run_shown}
 use Rattle.byte_machine.specs.Opening.{begun}
 use Rattle.byte_machine.specs.Machines.{Loaded, Reaches, fault_of, moved_next, Advances, FailsAfter, StoppedStays}
 use Rattle.byte_machine.specs.Performing.{behind, having_moved, HaveMoved, Carried, FailsIn, Performs}
+use Rattle.byte_machine.proofs.Stretches.{after-add}
 use Rattle.byte_machine.proofs.Moving.{bytes_on-append, have_moved-none, have_moved-append, offers-behind, some_input, offers-some, moves_up_to}
 
 -- a state that has shown something before
@@ -169,6 +170,21 @@ carried_by-more k program start core core' x y z before one = record {
       ∙ ap (next program) (before.state inner offered ∙ moved-prefixed core before.moved inner)
       ∙ next-prefixed program before.moved (begun core inner)
       ∙ ap (prefixed before.moved) (one.state rest offers));
+}
+
+-- n more that stay in one call
+pub went_straight : (k n : ℕ) (program : Program) (start : Core) (old new : Loaded) (x y : Streams) → old.program ≡ program
+    → CarriedBy k program start old.core x y
+    → ((world : World) → after old.program n (record { core = old.core; world = world }) ≡ record { core = new.core; world = world })
+    → CarriedBy (k + n) program start new.core x y
+went_straight k n program start old new x y same before stays = record {
+  moved = before.moved;
+  have = before.have;
+  state = λ rest offers.
+      let world : World = record { input = rest; shown = before.moved } in
+      let went = subst (λ p. after p n (record { core = old.core; world = world }) ≡ record { core = new.core; world = world }) same (stays world) in
+      after-add program k n (begun start (behind before.moved rest)) (having_moved old.core before.moved rest) (having_moved new.core before.moved rest)
+      (before.state rest offers) went;
 }
 
 -- the same of a machine as its callers see it, that keeps its program

@@ -4,4 +4,5 @@ pub mod Opening
 pub mod Performing
 pub mod Stack
 pub mod State
+pub mod Straight
 pub mod View

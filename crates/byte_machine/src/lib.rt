@@ -7,6 +7,7 @@ mod memory;
 mod opening;
 mod rows;
 mod stack;
+mod straight;
 mod windows;
 
 pub use laws::stopped_stays;

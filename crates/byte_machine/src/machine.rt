@@ -1,34 +1,33 @@
 //! The machine while it runs.
 
-ghost use Rattle.std.specs.Prelude.{◌≡◌, ◌≢◌, ℕ, ◌+◌, ◌≤◌, ◌<◌, Option, None, Some, IfSome, IfOk, true, false, length, replicate};
+ghost use Rattle.std.specs.Prelude.{◌≡◌, ◌≢◌, ℕ, ◌+◌, ◌≤◌, ◌<◌, None, Some, IfSome, IfOk, true, false, length, replicate};
 ghost use Rattle.std.specs.Option.{option_map};
 ghost use Rattle.fc_base.specs.declared.levels.End.{End};
-ghost use Rattle.fc_base.specs.Widths.{width_bytes};
 ghost use Rattle.run_meaning.specs.Objects.{Streams, StreamState, stream, streams, Failed, NoneFell};
 ghost use Rattle.run_meaning.specs.declared.streams.Stream.{Stream};
 ghost use Rattle.bm_image.specs.Images.{plain_image, IsImage, function_at, bounds_of, host_takes, fits};
 ghost use Rattle.c_library.specs.declared.functions.LibFn.{LibFn};
-ghost use Rattle.byte_machine.specs.State.{number_at, low_bytes, register, slot_value, giving, going_on, going_to, passing, is_full, frame_of, entering, result_register, size_of, arguments, memory_row};
+ghost use Rattle.byte_machine.specs.State.{after, register, slot_value, giving, going_on, going_to, is_full, frame_of, entering, result_register, size_of, arguments, memory_row};
 ghost use Rattle.library_meaning.specs.declared.stops.HostStop.{HostStop};
 ghost use Rattle.byte_machine.specs.Calls.{waits};
 ghost use Rattle.library_meaning.specs.Memory.{are_valid, put, bytes_at};
 ghost use Rattle.byte_machine.specs.Opening.{program_of, first_core, first_end};
-ghost use Rattle.run_meaning.specs.Worlds.{ArgumentsFit};
+ghost use Rattle.run_meaning.specs.Worlds.{ArgumentsFit, World};
 ghost use Rattle.byte_machine.specs.Machines.{fault_of, Advances, FailsAfter};
 ghost use Rattle.byte_machine.specs.Performing.{IsGoing, StandsAt, StandsAtCall, Names, GoesOn, Lands, stopped_with, Performs, Enters, resuming, Did, Halts, is_plain, acts};
+ghost use Rattle.byte_machine.specs.Straight.{leaves_call};
 
-use crate::memory::{both_are_valid, bytes_of, number_at, store};
 use crate::opening::{open_memory, open_stop, open_windows};
 use crate::rows::{is_plain, on_memory};
 use crate::stack::{STACK_FRAMES, STACK_START, STACK_WEIGHTS, least_weight};
+use crate::straight::{Functions, Next};
 use crate::windows::Windows;
-use bm_arithmetic::{binary_value, divide_value};
 use bm_heap::Heap;
 use bm_image::{FnRec, Image};
-use bm_isa::{BinaryOp, DivideOp, DivideWidth, Instr};
+use bm_isa::Instr;
 use c_library::{LibFn, host_call};
-use fc_base::{End, NoMemory, Sink, Source, Width, Words, extend};
-use host_bytes::{copy, fill, is_valid};
+use fc_base::{End, NoMemory, Sink, Source, Words};
+use host_bytes::{copy, fill};
 use library_meaning::HostStop;
 use std::alloc::Global;
 use std::marker::Model;
@@ -196,9 +195,14 @@ impl Machine {
         if let Some(stop) = self.stopped {
             return stop;
         }
-        for _turn in 0..budget {
+        let mut done = 0;
+        while done < budget {
+            done += self.go_straight(budget - done);
+            if done == budget {
+                return Stop::OutOfSteps;
+            }
             match self.advance(input, out, err) {
-                Step::Going => {}
+                Step::Going => done += 1,
                 Step::Stopped(stop) => return stop,
             }
         }
@@ -222,208 +226,46 @@ impl Machine {
             (stream (O.written out.new) (O.count out.new)) (stream (E.written err.new) (E.count err.new)) in
             Performs self.old self.new result before after }
     {
-        match self.instruction() {
-            Instr::Const { to, number } => self.give(to, number),
-            Instr::Slot { to, offset } => self.give(to, self.frame_address(offset)),
-            Instr::Argument { from, slot } => self.pass(from, slot),
+        let i = self.instruction();
+        match i {
+            Instr::Call { to, function } => self.call(to, function),
             Instr::Return { from } => self.leave(from),
             Instr::Host { to, call, count } => self.host(to, call, count, input, out, err),
-            Instr::Move { to, from } => self.copy_register(to, from),
-            Instr::Binary {
-                op,
-                to,
-                left,
-                right,
-            } => self.binary(op, to, left, right),
-            Instr::Divide {
-                op,
-                width,
-                to,
-                left,
-                right,
-            } => self.divide(op, width, to, left, right),
-            Instr::Extend {
-                signed,
-                width,
-                to,
-                from,
-            } => self.extend(signed, width, to, from),
-            Instr::Select { to, test, from } => self.select(to, test, from),
-            Instr::Jump { target } => self.goes_to(target),
-            Instr::JumpIfZero { test, target } => self.jump_if_zero(test, target),
-            Instr::JumpIfNotZero { test, target } => self.jump_if_not_zero(test, target),
-            Instr::Load {
-                signed,
-                width,
-                to,
-                at,
-            } => self.load_register(signed, width, to, at),
-            Instr::Store { width, from, at } => self.store_register(width, from, at),
-            Instr::Zero { at, count } => self.zero(at, count),
-            Instr::Copy {
-                to_at,
-                from_at,
-                count,
-            } => self.copy(to_at, from_at, count),
-            Instr::Call { to, function } => self.call(to, function),
+            _ => self.stay(i),
         }
     }
 
-    /// The one register becomes the other.
-    fn copy_register(&mut self, to: u32, from: u32) -> Step
+    /// Carries out an instruction that stays in the running call.
+    fn stay(&mut self, i: Instr) -> Step
         requires running { IsGoing self.old }
-        requires instruction { StandsAt self.old (Instr.Move to from) }
+        requires instruction { StandsAt self.old i }
+        requires stays { leaves_call i ≡ false }
         ensures program { self.new.program ≡ self.old.program }
         ensures performed { (all : Streams) → Performs self.old self.new result all all }
     {
-        let value = self.register(from);
-        self.give(to, value)
-    }
-
-    /// An operation on two registers.
-    fn binary(&mut self, op: BinaryOp, to: u32, left: u32, right: u32) -> Step
-        requires running { IsGoing self.old }
-        requires instruction { StandsAt self.old (Instr.Binary op to left right) }
-        ensures program { self.new.program ≡ self.old.program }
-        ensures performed { (all : Streams) → Performs self.old self.new result all all }
-    {
-        match binary_value(op, self.register(left), self.register(right)) {
-            Some(number) => self.give(to, number),
-            None => self.stop(Stop::Ended(End::Fpe)),
+        match self.windows.perform(i, &mut self.memory, &mut self.slots) {
+            Next::Behind => self.goes_on(),
+            Next::To(target) => self.goes_to(target),
+            Next::Ends(end) => self.stop(Stop::Ended(end)),
+            Next::Other => unreachable!(),
         }
     }
 
-    /// A signed division of two registers.
-    fn divide(&mut self, op: DivideOp, width: DivideWidth, to: u32, left: u32, right: u32) -> Step
-        requires running { IsGoing self.old }
-        requires instruction { StandsAt self.old (Instr.Divide op width to left right) }
+    /// At most `budget` instructions of the running call, up to one that leaves it or ends the run. The answer is how many.
+    fn go_straight(&mut self, budget: u64) -> u64
+        requires { IsGoing self.old }
         ensures program { self.new.program ≡ self.old.program }
-        ensures performed { (all : Streams) → Performs self.old self.new result all all }
+        ensures done { result ≤ budget }
+        ensures going { IsGoing self.new }
+        ensures stays { (world : World) → after self.old.program result (record { core = self.old.core; world = world })
+            ≡ record { core = self.new.core; world = world } }
     {
-        match divide_value(op, width, self.register(left), self.register(right)) {
-            Some(number) => self.give(to, number),
-            None => self.stop(Stop::Ended(End::Fpe)),
-        }
-    }
-
-    /// The low bytes of a register, extended.
-    fn extend(&mut self, signed: bool, width: Width, to: u32, from: u32) -> Step
-        requires running { IsGoing self.old }
-        requires instruction { StandsAt self.old (Instr.Extend signed width to from) }
-        ensures program { self.new.program ≡ self.old.program }
-        ensures performed { (all : Streams) → Performs self.old self.new result all all }
-    {
-        let value = extend(self.register(from), width, signed);
-        self.give(to, value)
-    }
-
-    /// The one register becomes the other where the test is not 0.
-    fn select(&mut self, to: u32, test: u32, from: u32) -> Step
-        requires running { IsGoing self.old }
-        requires instruction { StandsAt self.old (Instr.Select to test from) }
-        ensures program { self.new.program ≡ self.old.program }
-        ensures performed { (all : Streams) → Performs self.old self.new result all all }
-    {
-        if self.register(test) == 0 {
-            self.goes_on()
-        } else {
-            let value = self.register(from);
-            self.give(to, value)
-        }
-    }
-
-    /// Goes to an instruction where the test is 0.
-    fn jump_if_zero(&mut self, test: u32, target: u32) -> Step
-        requires running { IsGoing self.old }
-        requires instruction { StandsAt self.old (Instr.JumpIfZero test target) }
-        requires lands { Lands self.old target }
-        ensures program { self.new.program ≡ self.old.program }
-        ensures performed { (all : Streams) → Performs self.old self.new result all all }
-    {
-        if self.register(test) == 0 {
-            self.goes_to(target)
-        } else {
-            self.goes_on()
-        }
-    }
-
-    /// Goes to an instruction where the test is not 0.
-    fn jump_if_not_zero(&mut self, test: u32, target: u32) -> Step
-        requires running { IsGoing self.old }
-        requires instruction { StandsAt self.old (Instr.JumpIfNotZero test target) }
-        requires lands { Lands self.old target }
-        ensures program { self.new.program ≡ self.old.program }
-        ensures performed { (all : Streams) → Performs self.old self.new result all all }
-    {
-        if self.register(test) == 0 {
-            self.goes_on()
-        } else {
-            self.goes_to(target)
-        }
-    }
-
-    /// The number at an address, extended.
-    fn load_register(&mut self, signed: bool, width: Width, to: u32, at: u32) -> Step
-        requires running { IsGoing self.old }
-        requires instruction { StandsAt self.old (Instr.Load signed width to at) }
-        ensures program { self.new.program ≡ self.old.program }
-        ensures performed { (all : Streams) → Performs self.old self.new result all all }
-    {
-        let address = self.register(at);
-        if !is_valid(address, bytes_of(width)) {
-            return self.stop(Stop::Ended(End::BadAddress));
-        }
-        let value = extend(self.load(address, width), width, signed);
-        self.give(to, value)
-    }
-
-    /// The low bytes of a register go to an address.
-    fn store_register(&mut self, width: Width, from: u32, at: u32) -> Step
-        requires running { IsGoing self.old }
-        requires instruction { StandsAt self.old (Instr.Store width from at) }
-        ensures program { self.new.program ≡ self.old.program }
-        ensures performed { (all : Streams) → Performs self.old self.new result all all }
-    {
-        let address = self.register(at);
-        if !is_valid(address, bytes_of(width)) {
-            return self.stop(Stop::Ended(End::BadAddress));
-        }
-        let number = self.register(from);
-        self.store(address, width, number);
-        self.goes_on()
-    }
-
-    /// Bytes go from the one address to the other, as if through a copy.
-    fn copy(&mut self, to_at: u32, from_at: u32, count: u32) -> Step
-        requires running { IsGoing self.old }
-        requires instruction { StandsAt self.old (Instr.Copy to_at from_at count) }
-        ensures program { self.new.program ≡ self.old.program }
-        ensures performed { (all : Streams) → Performs self.old self.new result all all }
-    {
-        let to = self.register(to_at);
-        let from = self.register(from_at);
-        let count = u64::from(count);
-        if !both_are_valid(to, from, count) {
-            return self.stop(Stop::Ended(End::BadAddress));
-        }
-        self.copy_bytes(to, from, count);
-        self.goes_on()
-    }
-
-    /// Zero bytes go to an address.
-    fn zero(&mut self, at: u32, count: u32) -> Step
-        requires running { IsGoing self.old }
-        requires instruction { StandsAt self.old (Instr.Zero at count) }
-        ensures program { self.new.program ≡ self.old.program }
-        ensures performed { (all : Streams) → Performs self.old self.new result all all }
-    {
-        let address = self.register(at);
-        let count = u64::from(count);
-        if !is_valid(address, count) {
-            return self.stop(Stop::Ended(End::BadAddress));
-        }
-        self.fill(address, 0, count);
-        self.goes_on()
+        let functions = Functions {
+            records: &self.functions,
+            code: &self.code,
+        };
+        self.windows
+            .go_straight(functions, &mut self.memory, &mut self.slots, budget)
     }
 
     /// Calls a function, or ends the run where the stack is full.
@@ -653,35 +495,12 @@ impl Machine {
         self.windows.register(r)
     }
 
-    /// An address in the running call's frame.
-    fn frame_address(&self, offset: u32) -> u64
-        ensures { result ≡ self.now.core.running.base + offset }
-    {
-        u64::from(self.windows.base()) + u64::from(offset)
-    }
-
     /// An argument slot.
     fn slot(&self, k: usize) -> u64
         requires { k < 64 }
         ensures { result ≡ slot_value self.now.core k }
     {
         self.slots[k]
-    }
-
-    /// The number at an address.
-    fn load(&self, address: u64, width: Width) -> u64
-        requires { are_valid address (width_bytes width) ≡ true }
-        ensures { result ≡ number_at width address self.now.core.memory }
-    {
-        number_at(&self.memory, address, width)
-    }
-
-    /// Stores the low bytes of a number.
-    fn store(&mut self, address: u64, width: Width, number: u64)
-        requires { are_valid address (width_bytes width) ≡ true }
-        ensures { self.new ≡ record self.old { core = record self.old.core { memory = put address (low_bytes width number) self.old.core.memory } } }
-    {
-        store(&mut self.memory, address, width, number);
     }
 
     /// Copies that many bytes from the one address to the other.
@@ -742,16 +561,6 @@ impl Machine {
         ensures step { result ≡ Step.Going }
     {
         self.windows.set(to, number);
-        self.goes_on()
-    }
-
-    /// Goes on behind the instruction, with the number of a register in an argument slot.
-    fn pass(&mut self, from: u32, slot: u32) -> Step
-        requires { StandsAt self.old (Instr.Argument from slot) }
-        ensures state { self.new ≡ record self.old { core = passing from slot self.old.core } }
-        ensures step { result ≡ Step.Going }
-    {
-        self.slots[slot as usize] = self.windows.register(from);
         self.goes_on()
     }
 }

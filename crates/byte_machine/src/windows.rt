@@ -1,9 +1,17 @@
 //! The registers of the calls.
 
-ghost use Rattle.std.specs.Prelude.{◌≡◌, ℕ, ◌+◌, ◌<◌, ◌≤◌, ◌∷◌, [], length, IfOk, slice_index};
+ghost use Rattle.std.specs.Prelude.{◌≡◌, ℕ, ◌+◌, ◌<◌, ◌≤◌, ◌∷◌, [], length, IfOk, slice_index, true};
 ghost use Rattle.byte_machine.specs.State.{Window, stack_weights};
 ghost use Rattle.byte_machine.specs.Calls.{Stack, registers_in, registers_from, entered, left, has_set, stands_at, waits};
+ghost use Rattle.bm_image.specs.declared.images.Bounds.{Bounds};
+ghost use Rattle.bm_image.specs.Images.{fits, IsCode};
+ghost use Rattle.library_meaning.specs.Memory.{memory_size};
+ghost use Rattle.byte_machine.specs.State.{after};
+ghost use Rattle.byte_machine.specs.View.{IsCall};
+ghost use Rattle.byte_machine.specs.Straight.{Around, running_at, Stays, LeadsTo};
 
+use crate::straight::{Functions, Next, perform, straight};
+use bm_isa::Instr;
 use fc_base::NoMemory;
 use std::alloc::Global;
 use std::marker::Model;
@@ -101,6 +109,57 @@ impl Windows {
         ensures { self.new ≡ has_set r number self.old }
     {
         self.registers[self.running.start as usize + r as usize] = number;
+    }
+
+    /// Carries out an instruction of the running call, where it stays in it.
+    pub fn perform(&mut self, i: Instr, memory: &mut [u8], slots: &mut [u64; 64]) -> Next
+        requires fits { (b : Bounds) × (fits (record b { registers = length self.old.running.registers }) i ≡ true) }
+        requires some { 0 < length self.old.running.registers }
+        requires size { length memory.old ≡ memory_size }
+        ensures stays { (b : Bounds) → fits (record b { registers = length self.old.running.registers }) i ≡ true → Stays b i result }
+        ensures leads { LeadsTo i self.old.running.base self.old.running.registers memory.old slots.old result
+            self.new.running.registers memory.new slots.new }
+        ensures rest { self.new ≡ record self.old { running = record self.old.running { registers = self.new.running.registers } } }
+        ensures count { length self.new.running.registers ≡ length self.old.running.registers }
+    {
+        let start = self.running.start as usize;
+        let base = self.running.base;
+        perform(i, base, &mut self.registers[start..], memory, slots)
+    }
+
+    /// At most `budget` instructions of the running call, up to one that leaves it or ends the run. The answer is how many.
+    pub fn go_straight(
+        &mut self,
+        functions: Functions<'_>,
+        memory: &mut [u8],
+        slots: &mut [u64; 64],
+        budget: u64,
+    ) -> u64
+        requires code { IsCode functions.records.now functions.code.now }
+        requires short { length functions.code.now ≤ 4194304 }
+        requires call { IsCall (record { functions = functions.records.now; code = functions.code.now }) self.old.running }
+        requires size { length memory.old ≡ memory_size }
+        ensures done { result ≤ budget }
+        ensures call { IsCall (record { functions = functions.entry.records.now; code = functions.entry.code.now }) self.new.running }
+        ensures rest { self.new ≡ record self.old {
+          running = record self.old.running { at = self.new.running.at; registers = self.new.running.registers };
+        } }
+        ensures stays { (a : Around) → after (record { functions = functions.entry.records.now; code = functions.entry.code.now }) result
+            (running_at a self.old.running.base self.old.running.at self.old.running.registers memory.old slots.old)
+            ≡ running_at a self.old.running.base self.new.running.at self.new.running.registers memory.new slots.new }
+    {
+        let mark = self.running;
+        let start = mark.start as usize;
+        let stretch = straight(
+            functions,
+            mark,
+            &mut self.registers[start..],
+            memory,
+            slots,
+            budget,
+        );
+        self.running.at = stretch.at as u32;
+        stretch.done
     }
 
     /// The running call goes on at another instruction.

@@ -11,6 +11,10 @@ mod numbers;
 #[cfg(test)]
 mod openings;
 #[cfg(test)]
+mod operands;
+#[cfg(test)]
 mod programs;
+#[cfg(test)]
+mod stacks;
 #[cfg(test)]
 mod values;

@@ -1,30 +1,32 @@
-//! Programs of one function, as the bytes of an image.
+//! Programs as the bytes of an image.
 
-use bm_image::{ReadFault, read_image};
+use bm_image::{FnRec, ReadFault, read_image};
 use bm_isa::{Instr, encode};
 use byte_machine::{Machine, Stop};
 use fc_base::{End, MemSink, MemSource, NoMemory, Words};
 use std::alloc::Global;
 
-/// The image of one function with eight registers and a frame of 32 bytes.
-pub fn image_bytes(alloc: Global, code: &[Instr]) -> Result<Vec<u8>, NoMemory> {
+/// The one function of most programs: eight registers and a frame of 32 bytes.
+const ALONE: FnRec = FnRec {
+    first: 0,
+    params: 0,
+    regs: 8,
+    weight: 8,
+    frame: 32,
+};
+
+/// The bytes of an image without data that begins with its first function.
+fn image_bytes(alloc: Global, functions: &[FnRec], code: &[Instr]) -> Result<Vec<u8>, NoMemory> {
     let mut bytes = Vec::new(alloc);
     bytes.extend_from_slice(b"FC3IMAGE")?;
-    let words = [
-        1,
-        1,
-        (code.len() % 0x1_0000) as u32,
-        0,
-        0,
-        0,
-        0,
-        0,
-        8,
-        8,
-        32,
-    ];
-    for word in words {
-        bytes.extend_from_slice(&word.to_le_bytes())?;
+    let counts = [functions.len(), code.len()];
+    for word in [1, counts[0] % 0x1_0000, counts[1] % 0x1_0000, 0, 0, 0] {
+        bytes.extend_from_slice(&(word as u32).to_le_bytes())?;
+    }
+    for f in functions {
+        for word in [f.first, f.params, f.regs, f.weight, f.frame] {
+            bytes.extend_from_slice(&word.to_le_bytes())?;
+        }
     }
     for instruction in code {
         bytes.extend_from_slice(&encode(instruction))?;
@@ -40,16 +42,26 @@ pub fn ended(stop: Stop) -> Option<End> {
     }
 }
 
-/// How a program ends within 100 instructions. None where it doesn't, or is none.
+/// How a program of one function ends within 100 instructions. None where it doesn't, or is none.
 pub fn end_of(alloc: Global, code: &[Instr]) -> Result<Option<End>, NoMemory> {
-    let bytes = image_bytes(alloc, code)?;
+    end_within(alloc, &[ALONE], code, 100)
+}
+
+/// How a program ends within so many instructions.
+pub fn end_within(
+    alloc: Global,
+    functions: &[FnRec],
+    code: &[Instr],
+    steps: u64,
+) -> Result<Option<End>, NoMemory> {
+    let bytes = image_bytes(alloc, functions, code)?;
     match read_image(alloc, &bytes) {
         Ok(image) => {
             let mut machine = Machine::open(alloc, &image, &Words::new(alloc))?;
             let mut input = MemSource::new(alloc, b"")?;
             let mut out = MemSink::sized(alloc, 0)?;
             let mut err = MemSink::sized(alloc, 45)?;
-            Ok(ended(machine.run(&mut input, &mut out, &mut err, 100)))
+            Ok(ended(machine.run(&mut input, &mut out, &mut err, steps)))
         }
         Err(ReadFault::NoMemory) => Err(NoMemory),
         Err(ReadFault::Refused(_)) => Ok(None),
