@@ -1,6 +1,8 @@
+pub mod Allocations
 pub mod Cells
 pub mod Comparisons
 pub mod Laws
+pub mod LibraryCalls
 pub mod Memory
 pub mod Objects
 pub mod OnObjects
