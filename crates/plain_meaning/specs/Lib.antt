@@ -1,0 +1,9 @@
+pub mod Actions
+pub mod Expressions
+pub mod Functions
+pub mod Laws
+pub mod Library
+pub mod Paths
+pub mod Programs
+pub mod Statements
+pub mod Values
