@@ -1,0 +1,6 @@
+pub mod Indexed
+pub mod LastNumbers
+pub mod Lookups
+pub mod NamesOnce
+pub mod Positions
+pub mod Said
