@@ -6,4 +6,5 @@ pub mod Parts
 pub mod Puts
 pub mod Read
 pub mod Shown
+pub mod SizeParts
 pub mod Stores

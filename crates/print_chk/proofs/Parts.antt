@@ -26,12 +26,27 @@ wrote_first a b host.InputFault x y w = absurd w
 -- a part, and then another one
 pub wrote_both : (a b : List ℕ) (r : Result (Unit {0}) HostStop) (x y z : StreamState) → Wrote a (Ok tt) x y → Wrote b r y z → Wrote (a ++ b) r x z
 wrote_both a b (Ok done) x y z v w = (appends-append a b x.told y.told z.told v.0 w.0, (let p = v.1 in let q = w.1 in omega arith))
-wrote_both a b (Err host.SinkFault) x y z v w =
-    (some_of_second a b w.0, front_of_second a b x.told y.told z.told v.0 w.1, rose-later x.faults y.faults z.faults v.1 w.2)
+wrote_both a b (Err host.SinkFault) x y z v w = (
+  some_of_second a b w.0,
+  front_of_second a b x.told y.told z.told v.0 w.1,
+  (
+    rose-later x.faults y.faults z.faults v.1 w.2.0,
+    (let p = v.1 in let q = w.2.1 in omega arith),
+  ),
+)
 wrote_both a b (Err host.Overflow) x y z v w = absurd w
 wrote_both a b (Err host.BadAddress) x y z v w = absurd w
 wrote_both a b (Err host.BadFormat) x y z v w = absurd w
 wrote_both a b (Err host.InputFault) x y z v w = absurd w
+
+-- no count falls
+pub wrote_grew : (bytes : List ℕ) (r : Result (Unit {0}) HostStop) (x y : StreamState) → Wrote bytes r x y → x.faults ≤ y.faults
+wrote_grew bytes (Ok done) x y w = w.1
+wrote_grew bytes (Err host.SinkFault) x y w = w.2.1
+wrote_grew bytes (Err host.Overflow) x y w = absurd w
+wrote_grew bytes (Err host.BadAddress) x y w = absurd w
+wrote_grew bytes (Err host.BadFormat) x y w = absurd w
+wrote_grew bytes (Err host.InputFault) x y w = absurd w
 
 pub wrote_nothing : (x : StreamState) → Wrote [] (Ok tt) x x
 wrote_nothing x = (appends-none x.told, omega arith)

@@ -51,7 +51,7 @@ module _ (ops args m : List ℕ) (descriptor i : ℕ) (lines : Lines ops args (i
 
     pub writes : (result : Result (Unit {0}) HostStop) (x y : StreamState) → Wrote t result x y → Writes ops done (and_then result (λ _. Ok (f.length % 2 ^ 32))) x y
     writes (Ok tt) x y w = writes_all ops m done descriptor (f.length % 2 ^ 32) t (length_given t) x y shows_all (ap int_of (text_long ops args m i f is first lines)) w.0
-    writes (Err host.SinkFault) x y w = writes_some ops m done descriptor t (length_given t) x y shows_all w.0 w.1 w.2
+    writes (Err host.SinkFault) x y w = writes_some ops m done descriptor t (length_given t) x y shows_all w.0 w.1 w.2.0
     writes (Err host.Overflow) x y w = absurd w
     writes (Err host.BadAddress) x y w = absurd w
     writes (Err host.BadFormat) x y w = absurd w

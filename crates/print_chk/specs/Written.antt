@@ -10,7 +10,8 @@ use Rattle.print_texts.specs.Printing.{listed, measured, shown}
 -- these bytes, or a front of them where the sink failed
 abbrev pub Wrote : List ℕ → Result (Unit {0}) HostStop → StreamState → StreamState → Type 0
 Wrote bytes (Ok done) old new = Appends bytes old.told new.told × (old.faults ≤ new.faults)
-Wrote bytes (Err host.SinkFault) old new = (bytes ≢ []) × AppendsFront bytes old.told new.told × Rose old.faults new.faults
+Wrote bytes (Err host.SinkFault) old new =
+    (bytes ≢ []) × AppendsFront bytes old.told new.told × (Rose old.faults new.faults × (old.faults ≤ new.faults))
 Wrote bytes (Err host.Overflow) old new = ⊥
 Wrote bytes (Err host.BadAddress) old new = ⊥
 Wrote bytes (Err host.BadFormat) old new = ⊥

@@ -22,7 +22,7 @@ use print_formats::{Conversion, Specifier};
 use print_texts::{Padding, Part, ROOM, argument, most, next_part, padding_of, write_number};
 
 /// Writes bytes on the sink.
-fn put<S: Sink>(sink: &mut S, bytes: &[u8]) -> Result<(), HostStop>
+pub fn put<S: Sink>(sink: &mut S, bytes: &[u8]) -> Result<(), HostStop>
     ensures { Wrote bytes.now result
         (stream (S.written sink.old) (S.count sink.old)) (stream (S.written sink.new) (S.count sink.new)) }
 {
@@ -166,9 +166,10 @@ pub fn print_out<S: Sink>(
     ensures printf { Writes (format ∷ args.now)
         (run (on_bytes (format ∷ args.now)) (prints.printf (length args.now)) mem.now quiet) result
         (stream (S.written sink.old) (S.count sink.old)) (stream (S.written sink.new) (S.count sink.new)) }
-    ensures dprintf { (descriptor : ℕ) → Writes (descriptor ∷ format ∷ args.now)
-        (run (on_bytes (descriptor ∷ format ∷ args.now)) (prints.print_on descriptor (length args.now) 1) mem.now quiet) result
+    ensures dprintf { (first descriptor : ℕ) → Writes (first ∷ format ∷ args.now)
+        (run (on_bytes (first ∷ format ∷ args.now)) (prints.print_on descriptor (length args.now) 1) mem.now quiet) result
         (stream (S.written sink.old) (S.count sink.old)) (stream (S.written sink.new) (S.count sink.new)) }
+    ensures grew { S.count sink.old ≤ S.count sink.new }
 {
     let format = match read_format(mem, format, args) {
         Ok(format) => format,
