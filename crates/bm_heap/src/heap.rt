@@ -1,7 +1,7 @@
 //! The heap.
 
-ghost use Rattle.std.specs.Prelude.{◌≡◌, ◌+◌, ◌<◌, ◌≤◌, ◌%◌, ◌/◌, None, Some, IfOk, IsErr, replicate};
-ghost use Rattle.bm_heap.specs.Heaps.{whole_heap, block_bytes, block_at, IsHeap, place_for, after_take, after_give, heap_places};
+ghost use Rattle.std.specs.Prelude.{◌≡◌, ◌+◌, ◌<◌, ◌≤◌, ◌%◌, ◌/◌, None, Some, IfSome, IfOk, IsErr, replicate};
+ghost use Rattle.bm_heap.specs.Heaps.{whole_heap, heap_size, block_bytes, block_at, IsHeap, place_for, after_take, after_give, heap_places};
 
 use crate::holes::{Hole, give_to, take_from};
 use fc_base::NoMemory;
@@ -52,6 +52,7 @@ impl Heap {
     pub fn take(&mut self, size: u64) -> Option<u64>
         ensures place { result ≡ place_for size self.old }
         ensures heap { self.new ≡ after_take size self.old }
+        ensures inside { IfSome result (λ place. place + block_bytes size ≤ heap_size) }
     {
         if size >= HEAP_SIZE {
             let _holes = &self.holes;

@@ -47,22 +47,10 @@ bounds_of functions size k = record {
 abbrev pub memset_chk : ℕ
 memset_chk = host_number calls.Memset true
 
--- the machine doesn't have the calls on the heap and those that write or read yet
+-- the machine doesn't have the prints into memory yet
 abbrev pub is_built : LibFn → Bool
-is_built calls.Malloc = false
-is_built calls.Calloc = false
-is_built calls.Realloc = false
-is_built calls.Free = false
-is_built calls.Printf = false
-is_built calls.Puts = false
-is_built calls.Putchar = false
-is_built calls.Dprintf = false
 is_built calls.Sprintf = false
 is_built calls.Snprintf = false
-is_built calls.Read = false
-is_built calls.Write = false
-is_built calls.Getchar = false
-is_built calls.Note = false
 is_built _ = true
 
 -- how many argument slots a call of a function takes: one for each parameter, and one more for the size of its checked form.

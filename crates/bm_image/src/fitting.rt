@@ -11,39 +11,7 @@ use c_library::{LibFn, host_call};
 fn is_built(f: LibFn) -> bool
     ensures { result ≡ is_built f }
 {
-    match f {
-        LibFn::Exit
-        | LibFn::Abort
-        | LibFn::Memcpy
-        | LibFn::Memmove
-        | LibFn::Mempcpy
-        | LibFn::Memset
-        | LibFn::Bzero
-        | LibFn::ExplicitBzero
-        | LibFn::Memcmp
-        | LibFn::Strcpy
-        | LibFn::Stpcpy
-        | LibFn::Strncpy
-        | LibFn::Strcat
-        | LibFn::Strncat
-        | LibFn::Strlen
-        | LibFn::Strcmp
-        | LibFn::Strchr => true,
-        LibFn::Malloc
-        | LibFn::Calloc
-        | LibFn::Realloc
-        | LibFn::Free
-        | LibFn::Printf
-        | LibFn::Puts
-        | LibFn::Putchar
-        | LibFn::Dprintf
-        | LibFn::Sprintf
-        | LibFn::Snprintf
-        | LibFn::Read
-        | LibFn::Write
-        | LibFn::Getchar
-        | LibFn::Note => false,
-    }
+    !matches!(f, LibFn::Sprintf | LibFn::Snprintf)
 }
 
 /// Whether a form of the function takes that many argument slots.

@@ -7,17 +7,16 @@ use Rattle.c_library.specs.declared.functions.LibFn.{LibFn}
 use Rattle.c_library.specs.declared.functions.LibFn.TheVariants as calls
 use Rattle.c_library.specs.Library.{row_of}
 use Rattle.bm_isa.specs.declared.instructions.Instr.TheVariants as instr
-use Rattle.bm_image.specs.Images.{form_takes}
 use Rattle.library_meaning.specs.Scan.{Found}
 use Rattle.library_meaning.specs.Rows.{Row, Gives, Check, Nowhere, Answer, run}
 use Rattle.library_meaning.specs.Table.{ended}
 use Rattle.library_meaning.specs.Table as table
 use Rattle.library_meaning.specs.OnBytes.{on_bytes, number_of, quiet, Does}
 use Rattle.library_meaning.specs.declared.stops.HostStop.{HostStop}
-use Rattle.byte_machine.specs.State.{Core, State, arguments, size_of, memory_row, giving, with_core, stopping, answered, by_row, host_call, perform}
+use Rattle.byte_machine.specs.State.{Core, State, arguments, size_of, giving, with_core, stopping, answered, by_row, host_call, perform}
 use Rattle.byte_machine.specs.Opening.{begun}
 use Rattle.byte_machine.specs.Machines.{Loaded}
-use Rattle.byte_machine.specs.Performing.{StandsAtCall, slots_from, operands, Did, is_plain, acts, Halts}
+use Rattle.byte_machine.specs.Performing.{StandsAtCall, slots_from, operands, memory_row, Did, is_plain, acts, uses_streams}
 use Rattle.byte_machine.proofs.Steps.{call_is}
 use Rattle.byte_machine.proofs.Worlds.{May, carried_to, run_carried, respects_any}
 
@@ -67,74 +66,79 @@ operands_are f core long =
     let few = few_parameters f in
     sym (slots_taken (length (row_of f).parameters) 0 core.slots (omega (arith, few, long)))
 
--- a call that an image may have is plain, ends the run, or acts on the heap
-pub takes_acts : (f : LibFn) (checked : Bool) (count : ℕ) → form_takes f checked count ≡ true → is_plain f ≡ false → acts f ≡ true
-takes_acts calls.Exit checked count takes plain = refl
-takes_acts calls.Abort checked count takes plain = refl
-takes_acts calls.Malloc checked count takes plain = absurd (cc takes)
-takes_acts calls.Calloc checked count takes plain = absurd (cc takes)
-takes_acts calls.Realloc checked count takes plain = absurd (cc takes)
-takes_acts calls.Free checked count takes plain = absurd (cc takes)
-takes_acts calls.Memcpy checked count takes plain = absurd (cc plain)
-takes_acts calls.Memmove checked count takes plain = absurd (cc plain)
-takes_acts calls.Mempcpy checked count takes plain = absurd (cc plain)
-takes_acts calls.Memset checked count takes plain = absurd (cc plain)
-takes_acts calls.Bzero checked count takes plain = absurd (cc plain)
-takes_acts calls.ExplicitBzero checked count takes plain = absurd (cc plain)
-takes_acts calls.Memcmp checked count takes plain = absurd (cc plain)
-takes_acts calls.Strcpy checked count takes plain = absurd (cc plain)
-takes_acts calls.Stpcpy checked count takes plain = absurd (cc plain)
-takes_acts calls.Strncpy checked count takes plain = absurd (cc plain)
-takes_acts calls.Strcat checked count takes plain = absurd (cc plain)
-takes_acts calls.Strncat checked count takes plain = absurd (cc plain)
-takes_acts calls.Strlen checked count takes plain = absurd (cc plain)
-takes_acts calls.Strcmp checked count takes plain = absurd (cc plain)
-takes_acts calls.Strchr checked count takes plain = absurd (cc plain)
-takes_acts calls.Printf checked count takes plain = absurd (cc takes)
-takes_acts calls.Puts checked count takes plain = absurd (cc takes)
-takes_acts calls.Putchar checked count takes plain = absurd (cc takes)
-takes_acts calls.Dprintf checked count takes plain = absurd (cc takes)
-takes_acts calls.Sprintf checked count takes plain = absurd (cc takes)
-takes_acts calls.Snprintf checked count takes plain = absurd (cc takes)
-takes_acts calls.Read checked count takes plain = absurd (cc takes)
-takes_acts calls.Write checked count takes plain = absurd (cc takes)
-takes_acts calls.Getchar checked count takes plain = absurd (cc takes)
-takes_acts calls.Note checked count takes plain = absurd (cc takes)
+-- each call moves bytes in memory, ends the run or acts on the heap, prints, or uses the streams
+pub moves_streams : (f : LibFn) → is_plain f ≡ false → acts f ≡ false → (row_of f).variadic ≡ false → uses_streams f ≡ true
+moves_streams calls.Exit plain acting variadic = absurd (cc acting)
+moves_streams calls.Abort plain acting variadic = absurd (cc acting)
+moves_streams calls.Malloc plain acting variadic = absurd (cc acting)
+moves_streams calls.Calloc plain acting variadic = absurd (cc acting)
+moves_streams calls.Realloc plain acting variadic = absurd (cc acting)
+moves_streams calls.Free plain acting variadic = absurd (cc acting)
+moves_streams calls.Memcpy plain acting variadic = absurd (cc plain)
+moves_streams calls.Memmove plain acting variadic = absurd (cc plain)
+moves_streams calls.Mempcpy plain acting variadic = absurd (cc plain)
+moves_streams calls.Memset plain acting variadic = absurd (cc plain)
+moves_streams calls.Bzero plain acting variadic = absurd (cc plain)
+moves_streams calls.ExplicitBzero plain acting variadic = absurd (cc plain)
+moves_streams calls.Memcmp plain acting variadic = absurd (cc plain)
+moves_streams calls.Strcpy plain acting variadic = absurd (cc plain)
+moves_streams calls.Stpcpy plain acting variadic = absurd (cc plain)
+moves_streams calls.Strncpy plain acting variadic = absurd (cc plain)
+moves_streams calls.Strcat plain acting variadic = absurd (cc plain)
+moves_streams calls.Strncat plain acting variadic = absurd (cc plain)
+moves_streams calls.Strlen plain acting variadic = absurd (cc plain)
+moves_streams calls.Strcmp plain acting variadic = absurd (cc plain)
+moves_streams calls.Strchr plain acting variadic = absurd (cc plain)
+moves_streams calls.Printf plain acting variadic = absurd (cc variadic)
+moves_streams calls.Puts plain acting variadic = refl
+moves_streams calls.Putchar plain acting variadic = refl
+moves_streams calls.Dprintf plain acting variadic = absurd (cc variadic)
+moves_streams calls.Sprintf plain acting variadic = absurd (cc variadic)
+moves_streams calls.Snprintf plain acting variadic = absurd (cc variadic)
+moves_streams calls.Read plain acting variadic = refl
+moves_streams calls.Write plain acting variadic = refl
+moves_streams calls.Getchar plain acting variadic = refl
+moves_streams calls.Note plain acting variadic = refl
 
--- a plain call does what its row says
-pub by_memory_row : (f : LibFn) → is_plain f ≡ true → (checked : Bool) (to : ℕ) (s : State)
-    → host_call f checked to s ≡ by_row to (arguments f s.core) (memory_row f (size_of f checked s.core)) s
-by_memory_row calls.Exit plain checked to s = absurd (cc plain)
-by_memory_row calls.Abort plain checked to s = absurd (cc plain)
-by_memory_row calls.Malloc plain checked to s = absurd (cc plain)
-by_memory_row calls.Calloc plain checked to s = absurd (cc plain)
-by_memory_row calls.Realloc plain checked to s = absurd (cc plain)
-by_memory_row calls.Free plain checked to s = absurd (cc plain)
-by_memory_row calls.Memcpy plain checked to s = refl
-by_memory_row calls.Memmove plain checked to s = refl
-by_memory_row calls.Mempcpy plain checked to s = refl
-by_memory_row calls.Memset plain checked to s = refl
-by_memory_row calls.Bzero plain checked to s = refl
-by_memory_row calls.ExplicitBzero plain checked to s = refl
-by_memory_row calls.Memcmp plain checked to s = refl
-by_memory_row calls.Strcpy plain checked to s = refl
-by_memory_row calls.Stpcpy plain checked to s = refl
-by_memory_row calls.Strncpy plain checked to s = refl
-by_memory_row calls.Strcat plain checked to s = refl
-by_memory_row calls.Strncat plain checked to s = refl
-by_memory_row calls.Strlen plain checked to s = refl
-by_memory_row calls.Strcmp plain checked to s = refl
-by_memory_row calls.Strchr plain checked to s = refl
-by_memory_row calls.Printf plain checked to s = refl
-by_memory_row calls.Puts plain checked to s = absurd (cc plain)
-by_memory_row calls.Putchar plain checked to s = absurd (cc plain)
-by_memory_row calls.Dprintf plain checked to s = refl
-by_memory_row calls.Sprintf plain checked to s = refl
-by_memory_row calls.Snprintf plain checked to s = refl
-by_memory_row calls.Read plain checked to s = refl
-by_memory_row calls.Write plain checked to s = absurd (cc plain)
-by_memory_row calls.Getchar plain checked to s = refl
-by_memory_row calls.Note plain checked to s = refl
+-- what a call does by its row, where it has one
+abbrev if_row : ℕ → List ℕ → Option Row → State → State
+if_row to args None s = s
+if_row to args (Some row) s = by_row to args row s
+
+-- a call that moves bytes in memory does what its row says
+by_memory_row : (f : LibFn) → is_plain f ≡ true → (checked : Bool) (count to : ℕ) (s : State)
+    → host_call f checked count to s ≡ if_row to (arguments f s.core) (memory_row f (size_of f checked s.core)) s
+by_memory_row calls.Exit plain checked count to s = absurd (cc plain)
+by_memory_row calls.Abort plain checked count to s = absurd (cc plain)
+by_memory_row calls.Malloc plain checked count to s = absurd (cc plain)
+by_memory_row calls.Calloc plain checked count to s = absurd (cc plain)
+by_memory_row calls.Realloc plain checked count to s = absurd (cc plain)
+by_memory_row calls.Free plain checked count to s = absurd (cc plain)
+by_memory_row calls.Memcpy plain checked count to s = refl
+by_memory_row calls.Memmove plain checked count to s = refl
+by_memory_row calls.Mempcpy plain checked count to s = refl
+by_memory_row calls.Memset plain checked count to s = refl
+by_memory_row calls.Bzero plain checked count to s = refl
+by_memory_row calls.ExplicitBzero plain checked count to s = refl
+by_memory_row calls.Memcmp plain checked count to s = refl
+by_memory_row calls.Strcpy plain checked count to s = refl
+by_memory_row calls.Stpcpy plain checked count to s = refl
+by_memory_row calls.Strncpy plain checked count to s = refl
+by_memory_row calls.Strcat plain checked count to s = refl
+by_memory_row calls.Strncat plain checked count to s = refl
+by_memory_row calls.Strlen plain checked count to s = refl
+by_memory_row calls.Strcmp plain checked count to s = refl
+by_memory_row calls.Strchr plain checked count to s = refl
+by_memory_row calls.Printf plain checked count to s = absurd (cc plain)
+by_memory_row calls.Puts plain checked count to s = absurd (cc plain)
+by_memory_row calls.Putchar plain checked count to s = absurd (cc plain)
+by_memory_row calls.Dprintf plain checked count to s = absurd (cc plain)
+by_memory_row calls.Sprintf plain checked count to s = absurd (cc plain)
+by_memory_row calls.Snprintf plain checked count to s = absurd (cc plain)
+by_memory_row calls.Read plain checked count to s = absurd (cc plain)
+by_memory_row calls.Write plain checked count to s = absurd (cc plain)
+by_memory_row calls.Getchar plain checked count to s = absurd (cc plain)
+by_memory_row calls.Note plain checked count to s = absurd (cc plain)
 
 -- a row that neither shows nor takes
 abbrev Silent : Row → Type 0
@@ -197,38 +201,25 @@ kept args (Ok a) stop old new does = absurd (cc does.0)
 kept args (Err other) stop old new does = does.1
 
 did_row : (row : Option Row) (args : List ℕ) (to : ℕ) (result : Result ℕ HostStop) (memory : List ℕ) (s : State)
-    → ((r : Row) → row ≡ Some r → Silent r) → Did row args s.core.memory memory (Some result)
-    → by_row to args row s ≡ after_call to result memory s
+    → ((r : Row) → row ≡ Some r → Silent r) → Did row args s.core.memory memory result
+    → if_row to args row s ≡ after_call to result memory s
 did_row None args to result memory s silent did = absurd did
 did_row (Some row) args to result memory s silent did =
     ap (λ x. answered to args x s)
     (run_carried ⊥ ⊥ (λ (w : World). s.world) (respects_any s.world) (on_bytes args) row (silent row refl) s.core.memory quiet)
     ∙ did_answered to args (run (on_bytes args) row s.core.memory quiet) result memory s did
 
-pub kept_memory : (row : Option Row) (args : List ℕ) (stop : HostStop) (old new : List ℕ) → Did row args old new (Some (Err stop)) → new ≡ old
+pub kept_memory : (row : Option Row) (args : List ℕ) (stop : HostStop) (old new : List ℕ) → Did row args old new (Err stop) → new ≡ old
 kept_memory None args stop old new did = absurd did
 kept_memory (Some row) args stop old new did = kept args (run (on_bytes args) row old quiet) stop old new did
 
 -- the instruction of such a call
 pub call_moved : (l : Loaded) (f : LibFn) (checked : Bool) (to size : ℕ) (at : StandsAtCall l f checked to) (result : Result ℕ HostStop)
     (memory : List ℕ) (input : Input) → is_plain f ≡ true → size ≡ size_of f checked l.core
-    → Did (memory_row f size) (arguments f l.core) l.core.memory memory (Some result)
+    → Did (memory_row f size) (arguments f l.core) l.core.memory memory result
     → perform l.program (instr.Host to at.number at.count) (begun l.core input) ≡ after_call to result memory (begun l.core input)
 call_moved l f checked to size at result memory input plain same did =
     let s = begun l.core input in
-    call_is l f checked to at s ∙ by_memory_row f plain checked to s
+    call_is l f checked to at s ∙ by_memory_row f plain checked at.count to s
     ∙ did_row (memory_row f (size_of f checked l.core)) (arguments f l.core) to result memory s (silent_row f (size_of f checked l.core))
-    (subst (λ n. Did (memory_row f n) (arguments f l.core) l.core.memory memory (Some result)) same did)
-
--- one without a row does nothing
-pub call_idle : (l : Loaded) (f : LibFn) (checked : Bool) (to size : ℕ) (at : StandsAtCall l f checked to) (memory : List ℕ) (input : Input)
-    → is_plain f ≡ true → size ≡ size_of f checked l.core → Did (memory_row f size) (arguments f l.core) l.core.memory memory None
-    → (perform l.program (instr.Host to at.number at.count) (begun l.core input) ≡ begun l.core input) × (memory ≡ l.core.memory)
-call_idle l f checked to size at memory input plain same did =
-    let s = begun l.core input in
-    let both = go (memory_row f (size_of f checked l.core)) (subst (λ n. Did (memory_row f n) (arguments f l.core) l.core.memory memory None) same did) in
-    (call_is l f checked to at s ∙ by_memory_row f plain checked to s ∙ both.0, both.1) where
-      go : (row : Option Row) → Did row (arguments f l.core) l.core.memory memory None
-          → (by_row to (arguments f l.core) row (begun l.core input) ≡ begun l.core input) × (memory ≡ l.core.memory)
-      go None did = (refl, did)
-      go (Some row) did = absurd did
+    (subst (λ n. Did (memory_row f n) (arguments f l.core) l.core.memory memory result) same did)

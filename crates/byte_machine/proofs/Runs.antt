@@ -1,5 +1,5 @@
 -- One instruction after another.
-use Rattle.std.proofs.Common.{◌≡◌, ℕ, zero, suc, ◌+◌, List, [], ◌++◌, Bool, true, false, cond, is_some, Option, None, Some, Result, Ok, Err, slice_get, refl, sym, ◌∙◌, ap, subst, append_assoc, append-nil, add-one}
+use Rattle.std.proofs.Common.{◌≡◌, ℕ, zero, suc, ◌+◌, List, [], ◌++◌, take, Bool, true, false, cond, is_some, Option, None, Some, Result, Ok, Err, slice_get, refl, sym, ◌∙◌, ap, subst, append_assoc, append-nil, add-one}
 use Rattle.fc_base.specs.declared.levels.End.{End}
 use Rattle.fc_base.specs.declared.levels.End.TheVariants as ends
 use Rattle.run_meaning.specs.Runs.{Shown, on_descriptor, bytes_on}
@@ -16,7 +16,9 @@ use Rattle.c_library.specs.Library.{call_of}
 use Rattle.byte_machine.specs.declared.machine.Stop.TheVariants as stops
 use Rattle.byte_machine.specs.declared.machine.Step.{Step}
 use Rattle.byte_machine.specs.declared.machine.Step.TheVariants as steps
-use Rattle.byte_machine.specs.State.{Core, State, Program, arguments, size_of, row_for, ending, stopping, answered, by_row, host_call, numbered_call, perform, performed, next, after}
+use Rattle.byte_machine.specs.State.{Core, State, Program, arguments, size_of, passed, print_arguments, print_size, ending, stopping, answered, by_row, acting, acting_within, printing, printing_within, note, host_call, numbered_call, perform, performed, next, after}
+use Rattle.library_meaning.specs.Table as table
+use Rattle.library_meaning.specs.Prints as prints
 use Rattle.library_meaning.specs.Rows.{Row, Answer, run}
 use Rattle.library_meaning.specs.OnBytes.{on_bytes}
 use Rattle.library_meaning.specs.declared.stops.HostStop.{HostStop}
@@ -47,46 +49,62 @@ answered-prefixed : (front : Shown) (to : ℕ) (args : List ℕ) (ran : Result (
 answered-prefixed front to args (Ok a) s = refl
 answered-prefixed front to args (Err stop) s = stopping-prefixed front stop s
 
-row-prefixed : (front : Shown) (to : ℕ) (args : List ℕ) (row : Option Row) (s : State)
+row-prefixed : (front : Shown) (to : ℕ) (args : List ℕ) (row : Row) (s : State)
     → by_row to args row (prefixed front s) ≡ prefixed front (by_row to args row s)
-row-prefixed front to args None s = refl
-row-prefixed front to args (Some row) s =
+row-prefixed front to args row s =
     ap (λ x. answered to args x (prefixed front s)) (run_shown front (on_bytes args) row s.core.memory s.world)
     ∙ answered-prefixed front to args (run (on_bytes args) row s.core.memory s.world) s
 
-call-prefixed : (front : Shown) (call : LibFn) (checked : Bool) (to : ℕ) (s : State)
-    → host_call call checked to (prefixed front s) ≡ prefixed front (host_call call checked to s)
-call-prefixed front calls.Exit checked to s = refl
-call-prefixed front calls.Abort checked to s = refl
-call-prefixed front calls.Malloc checked to s = refl
-call-prefixed front calls.Calloc checked to s = refl
-call-prefixed front calls.Realloc checked to s = refl
-call-prefixed front calls.Free checked to s = refl
-call-prefixed front calls.Memcpy checked to s = row-prefixed front to (arguments calls.Memcpy s.core) (row_for calls.Memcpy (size_of calls.Memcpy checked s.core)) s
-call-prefixed front calls.Memmove checked to s = row-prefixed front to (arguments calls.Memmove s.core) (row_for calls.Memmove (size_of calls.Memmove checked s.core)) s
-call-prefixed front calls.Mempcpy checked to s = row-prefixed front to (arguments calls.Mempcpy s.core) (row_for calls.Mempcpy (size_of calls.Mempcpy checked s.core)) s
-call-prefixed front calls.Memset checked to s = row-prefixed front to (arguments calls.Memset s.core) (row_for calls.Memset (size_of calls.Memset checked s.core)) s
-call-prefixed front calls.Bzero checked to s = row-prefixed front to (arguments calls.Bzero s.core) (row_for calls.Bzero (size_of calls.Bzero checked s.core)) s
-call-prefixed front calls.ExplicitBzero checked to s = row-prefixed front to (arguments calls.ExplicitBzero s.core) (row_for calls.ExplicitBzero (size_of calls.ExplicitBzero checked s.core)) s
-call-prefixed front calls.Memcmp checked to s = row-prefixed front to (arguments calls.Memcmp s.core) (row_for calls.Memcmp (size_of calls.Memcmp checked s.core)) s
-call-prefixed front calls.Strcpy checked to s = row-prefixed front to (arguments calls.Strcpy s.core) (row_for calls.Strcpy (size_of calls.Strcpy checked s.core)) s
-call-prefixed front calls.Stpcpy checked to s = row-prefixed front to (arguments calls.Stpcpy s.core) (row_for calls.Stpcpy (size_of calls.Stpcpy checked s.core)) s
-call-prefixed front calls.Strncpy checked to s = row-prefixed front to (arguments calls.Strncpy s.core) (row_for calls.Strncpy (size_of calls.Strncpy checked s.core)) s
-call-prefixed front calls.Strcat checked to s = row-prefixed front to (arguments calls.Strcat s.core) (row_for calls.Strcat (size_of calls.Strcat checked s.core)) s
-call-prefixed front calls.Strncat checked to s = row-prefixed front to (arguments calls.Strncat s.core) (row_for calls.Strncat (size_of calls.Strncat checked s.core)) s
-call-prefixed front calls.Strlen checked to s = row-prefixed front to (arguments calls.Strlen s.core) (row_for calls.Strlen (size_of calls.Strlen checked s.core)) s
-call-prefixed front calls.Strcmp checked to s = row-prefixed front to (arguments calls.Strcmp s.core) (row_for calls.Strcmp (size_of calls.Strcmp checked s.core)) s
-call-prefixed front calls.Strchr checked to s = row-prefixed front to (arguments calls.Strchr s.core) (row_for calls.Strchr (size_of calls.Strchr checked s.core)) s
-call-prefixed front calls.Printf checked to s = row-prefixed front to (arguments calls.Printf s.core) (row_for calls.Printf (size_of calls.Printf checked s.core)) s
-call-prefixed front calls.Puts checked to s = row-prefixed front to (arguments calls.Puts s.core) (row_for calls.Puts (size_of calls.Puts checked s.core)) s
-call-prefixed front calls.Putchar checked to s = row-prefixed front to (arguments calls.Putchar s.core) (row_for calls.Putchar (size_of calls.Putchar checked s.core)) s
-call-prefixed front calls.Dprintf checked to s = row-prefixed front to (arguments calls.Dprintf s.core) (row_for calls.Dprintf (size_of calls.Dprintf checked s.core)) s
-call-prefixed front calls.Sprintf checked to s = row-prefixed front to (arguments calls.Sprintf s.core) (row_for calls.Sprintf (size_of calls.Sprintf checked s.core)) s
-call-prefixed front calls.Snprintf checked to s = row-prefixed front to (arguments calls.Snprintf s.core) (row_for calls.Snprintf (size_of calls.Snprintf checked s.core)) s
-call-prefixed front calls.Read checked to s = row-prefixed front to (arguments calls.Read s.core) (row_for calls.Read (size_of calls.Read checked s.core)) s
-call-prefixed front calls.Write checked to s = row-prefixed front to (arguments calls.Write s.core) (row_for calls.Write (size_of calls.Write checked s.core)) s
-call-prefixed front calls.Getchar checked to s = row-prefixed front to (arguments calls.Getchar s.core) (row_for calls.Getchar (size_of calls.Getchar checked s.core)) s
-call-prefixed front calls.Note checked to s = row-prefixed front to (arguments calls.Note s.core) (row_for calls.Note (size_of calls.Note checked s.core)) s
+acting-prefixed : (front : Shown) (f : LibFn) (row : Row) (to : ℕ) (s : State)
+    → acting f row to (prefixed front s) ≡ prefixed front (acting f row to s)
+acting-prefixed front f row to s = row-prefixed front to (arguments f s.core) row s
+
+within-prefixed : (front : Shown) (f : LibFn) (row : ℕ → Row) (checked : Bool) (to : ℕ) (s : State)
+    → acting_within f row checked to (prefixed front s) ≡ prefixed front (acting_within f row checked to s)
+within-prefixed front f row checked to s = row-prefixed front to (arguments f s.core) (row (size_of f checked s.core)) s
+
+printing-prefixed : (front : Shown) (f : LibFn) (row : ℕ → Row) (checked : Bool) (count to : ℕ) (s : State)
+    → printing f row checked count to (prefixed front s) ≡ prefixed front (printing f row checked count to s)
+printing-prefixed front f row checked count to s = row-prefixed front to (take count s.core.slots) (row (passed f checked count)) s
+
+printing_within-prefixed : (front : Shown) (f : LibFn) (k : ℕ) (row : ℕ → ℕ → Row) (checked : Bool) (count to : ℕ) (s : State)
+    → printing_within f k row checked count to (prefixed front s) ≡ prefixed front (printing_within f k row checked count to s)
+printing_within-prefixed front f k row checked count to s =
+    row-prefixed front to (print_arguments k checked count s.core) (row (passed f checked count) (print_size k checked s.core)) s
+
+call-prefixed : (front : Shown) (call : LibFn) (checked : Bool) (count to : ℕ) (s : State)
+    → host_call call checked count to (prefixed front s) ≡ prefixed front (host_call call checked count to s)
+call-prefixed front calls.Exit checked count to s = refl
+call-prefixed front calls.Abort checked count to s = refl
+call-prefixed front calls.Malloc checked count to s = refl
+call-prefixed front calls.Calloc checked count to s = refl
+call-prefixed front calls.Realloc checked count to s = refl
+call-prefixed front calls.Free checked count to s = refl
+call-prefixed front calls.Memcpy checked count to s = within-prefixed front calls.Memcpy table.memcpy checked to s
+call-prefixed front calls.Memmove checked count to s = within-prefixed front calls.Memmove table.memmove checked to s
+call-prefixed front calls.Mempcpy checked count to s = within-prefixed front calls.Mempcpy table.mempcpy checked to s
+call-prefixed front calls.Memset checked count to s = within-prefixed front calls.Memset table.memset checked to s
+call-prefixed front calls.Bzero checked count to s = within-prefixed front calls.Bzero table.bzero checked to s
+call-prefixed front calls.ExplicitBzero checked count to s = within-prefixed front calls.ExplicitBzero table.bzero checked to s
+call-prefixed front calls.Memcmp checked count to s = acting-prefixed front calls.Memcmp table.memcmp to s
+call-prefixed front calls.Strcpy checked count to s = within-prefixed front calls.Strcpy table.strcpy checked to s
+call-prefixed front calls.Stpcpy checked count to s = within-prefixed front calls.Stpcpy table.stpcpy checked to s
+call-prefixed front calls.Strncpy checked count to s = within-prefixed front calls.Strncpy table.strncpy checked to s
+call-prefixed front calls.Strcat checked count to s = within-prefixed front calls.Strcat table.strcat checked to s
+call-prefixed front calls.Strncat checked count to s = within-prefixed front calls.Strncat table.strncat checked to s
+call-prefixed front calls.Strlen checked count to s = acting-prefixed front calls.Strlen table.strlen to s
+call-prefixed front calls.Strcmp checked count to s = acting-prefixed front calls.Strcmp table.strcmp to s
+call-prefixed front calls.Strchr checked count to s = acting-prefixed front calls.Strchr table.strchr to s
+call-prefixed front calls.Printf checked count to s = printing-prefixed front calls.Printf prints.printf checked count to s
+call-prefixed front calls.Puts checked count to s = acting-prefixed front calls.Puts table.puts to s
+call-prefixed front calls.Putchar checked count to s = acting-prefixed front calls.Putchar table.putchar to s
+call-prefixed front calls.Dprintf checked count to s = printing-prefixed front calls.Dprintf prints.dprintf checked count to s
+call-prefixed front calls.Sprintf checked count to s = printing_within-prefixed front calls.Sprintf 1 prints.sprintf checked count to s
+call-prefixed front calls.Snprintf checked count to s = printing_within-prefixed front calls.Snprintf 2 prints.snprintf checked count to s
+call-prefixed front calls.Read checked count to s = within-prefixed front calls.Read table.read checked to s
+call-prefixed front calls.Write checked count to s = acting-prefixed front calls.Write table.write to s
+call-prefixed front calls.Getchar checked count to s = acting-prefixed front calls.Getchar table.getchar to s
+call-prefixed front calls.Note checked count to s = acting-prefixed front calls.Note note to s
 
 -- nor in an instruction
 perform-prefixed : (program : Program) (front : Shown) (i : Instr) (s : State)
@@ -109,9 +127,9 @@ perform-prefixed program front (instr.Argument from k) s = refl
 perform-prefixed program front (instr.Call to function) s = refl
 perform-prefixed program front (instr.Return from) s = refl
 perform-prefixed program front (instr.Host to call count) s = numbered (call_of call) where
-  numbered : (o : Option (LibFn × Bool)) → numbered_call o to (prefixed front s) ≡ prefixed front (numbered_call o to s)
+  numbered : (o : Option (LibFn × Bool)) → numbered_call o count to (prefixed front s) ≡ prefixed front (numbered_call o count to s)
   numbered None = refl
-  numbered (Some call) = call-prefixed front call.0 call.1 to s
+  numbered (Some call) = call-prefixed front call.0 call.1 count to s
 
 next-prefixed : (program : Program) (front : Shown) (s : State) → next program (prefixed front s) ≡ prefixed front (next program s)
 unfolding next

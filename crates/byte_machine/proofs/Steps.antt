@@ -211,8 +211,8 @@ is_not_zero read n same apart = go (n == 0) refl where
 
 -- a library call does what its equation says
 pub call_is : (l : Loaded) (call : LibFn) (checked : Bool) (to : ℕ) (at : StandsAtCall l call checked to) (s : State)
-    → perform l.program (instr.Host to at.number at.count) s ≡ host_call call checked to s
-call_is l call checked to at s = ap (λ o. numbered_call o to s) at.is
+    → perform l.program (instr.Host to at.number at.count) s ≡ host_call call checked at.count to s
+call_is l call checked to at s = ap (λ o. numbered_call o at.count to s) at.is
 
 -- its request exceeds its size
 overflows : (l : Loaded) (input : Input) → l.core.stopped ≡ None → Halts l host.Overflow

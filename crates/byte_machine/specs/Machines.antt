@@ -1,5 +1,5 @@
 -- What the calls of a machine promise, over any streams. This project's own.
-use Rattle.std.specs.Prelude.{◌≡◌, ◌≢◌, ℕ, ◌≤◌, Bool, [], Option, None, Some, slice_get}
+use Rattle.std.specs.Prelude.{◌≡◌, ◌≢◌, ℕ, ◌≤◌, Bool, [], Option, None, Some, slice_get, cond, ◌&&◌, ◌==◌, nat_le}
 use Rattle.run_meaning.specs.Runs.{Shown, bytes_on}
 use Rattle.run_meaning.specs.Worlds.{Input}
 use Rattle.run_meaning.specs.Objects.{Streams, Offers, Moves, MovesUpTo, descriptor_of}
@@ -13,7 +13,9 @@ use Rattle.c_library.specs.declared.functions.LibFn.TheVariants as calls
 use Rattle.c_library.specs.Library.{call_of}
 use Rattle.byte_machine.specs.declared.machine.Stop.{Stop}
 use Rattle.byte_machine.specs.declared.machine.Stop.TheVariants as stops
-use Rattle.byte_machine.specs.State.{Core, State, Program, next, after}
+use Rattle.library_meaning.specs.Table.{int_of}
+use Rattle.library_meaning.specs.Memory.{are_valid}
+use Rattle.byte_machine.specs.State.{Core, State, Program, slot_value, size_of, next, after}
 use Rattle.byte_machine.specs.Opening.{begun}
 
 -- a machine as its callers see it: what it is loaded with, its state without the world, and the stop that it answers
@@ -37,8 +39,12 @@ end_of_stop _ = None
 abbrev pub moved_next : Program → State → Shown
 moved_next program s = (next program (begun s.core s.world.input)).world.shown
 
--- how many bytes of descriptor 0 a library call asks for: `read` and `getchar` alone ask for any, and the machine doesn't
--- have them yet
+-- how many bytes of descriptor 0 a `read` asks for: its count, where that is within its size and each byte may be stored. From
+-- another descriptor it reads nothing
+abbrev pub read_asks : ℕ → ℕ → ℕ → ℕ → ℕ
+read_asks fd at n size = cond (int_of fd == 0 && (nat_le n size && are_valid at n)) n 0
+
+-- how many bytes of descriptor 0 a library call asks for
 abbrev pub asked_by : LibFn → Bool → Core → ℕ
 asked_by calls.Exit checked core = 0
 asked_by calls.Abort checked core = 0
@@ -67,9 +73,10 @@ asked_by calls.Putchar checked core = 0
 asked_by calls.Dprintf checked core = 0
 asked_by calls.Sprintf checked core = 0
 asked_by calls.Snprintf checked core = 0
-asked_by calls.Read checked core = 0
+asked_by calls.Read checked core =
+    read_asks (slot_value core 0) (slot_value core 1) (slot_value core 2) (size_of calls.Read checked core)
 asked_by calls.Write checked core = 0
-asked_by calls.Getchar checked core = 0
+asked_by calls.Getchar checked core = 1
 asked_by calls.Note checked core = 0
 
 abbrev pub asked_by_numbered : Option (LibFn × Bool) → Core → ℕ

@@ -1,9 +1,9 @@
 -- What one instruction does to a machine and to the streams. It serves the proofs alone.
-use Rattle.std.specs.Prelude.{◌≡◌, Bool, ℕ, zero, suc, ◌+◌, Option, Result, slice_index, List, [], ◌∷◌, ◌++◌, None, Some, slice_get, false, true, length, nat_le, nat_lt, ◌&&◌, ◌<◌}
+use Rattle.std.specs.Prelude.{◌≡◌, Bool, ℕ, zero, suc, ◌+◌, Option, Result, slice_index, List, [], ◌∷◌, ◌++◌, None, Some, slice_get, false, true, length, nat_le, nat_lt, ◌&&◌, ◌<◌, ◌≤◌}
 use Rattle.fc_base.specs.Outside.{IsAtEnd, IsFront}
 use Rattle.run_meaning.specs.Runs.{Shown, bytes_on}
 use Rattle.run_meaning.specs.Worlds.{AreBytes, Input}
-use Rattle.run_meaning.specs.Objects.{Streams, Offers, Moves, NoneFell, Failed}
+use Rattle.run_meaning.specs.Objects.{Streams, Offers, Moves, NoneFell, Failed, state_of, descriptor_of}
 use Rattle.run_meaning.specs.declared.streams.Stream.{Stream}
 use Rattle.run_meaning.specs.declared.streams.Stream.TheVariants.{Input as OfInput, Out as OfOut, Err as OfErr}
 use Rattle.bm_isa.specs.declared.instructions.Instr.{Instr}
@@ -11,11 +11,14 @@ use Rattle.bm_isa.specs.declared.instructions.Instr.TheVariants as instr
 use Rattle.c_library.specs.declared.functions.LibFn.{LibFn}
 use Rattle.c_library.specs.declared.functions.LibFn.TheVariants as calls
 use Rattle.c_library.specs.Library.{row_of, call_of}
-use Rattle.library_meaning.specs.Rows.{Row, run}
+use Rattle.library_meaning.specs.Scan.{Found}
+use Rattle.library_meaning.specs.Rows.{Row, Gives, Malformed, Check, Ask, Text, Bytes, Both, Point, Touch, Apart, Store, Show, Take, run}
+use Rattle.library_meaning.specs.Table as table
+use Rattle.library_meaning.specs.OnStreams.{Writes}
 use Rattle.library_meaning.specs.OnBytes.{on_bytes, quiet, Does}
 use Rattle.library_meaning.specs.declared.stops.HostStop.{HostStop}
-use Rattle.bm_image.specs.Images.{bounds_of, function_at, ends_function}
-use Rattle.byte_machine.specs.State.{Core, State, Program, Window, next, perform, stopping, is_full, resumed}
+use Rattle.bm_image.specs.Images.{bounds_of, function_at, ends_function, form_takes}
+use Rattle.byte_machine.specs.State.{Core, State, Program, Window, next, perform, by_row, stopping, is_full, resumed}
 use Rattle.byte_machine.specs.Opening.{begun}
 use Rattle.byte_machine.specs.Machines.{Loaded, Reaches, end_of_stop, moved_next}
 use Rattle.byte_machine.specs.declared.machine.Stop.{Stop}
@@ -66,6 +69,13 @@ pub record StandsAtCall (l : Loaded) (call : LibFn) (checked : Bool) (to : ℕ) 
   pub stands : StandsAt l (instr.Host to number count)
   pub is : call_of number ≡ Some (call, checked)
 
+-- the print that a machine stands at, which is passed so many slots
+pub record StandsAtPrint (l : Loaded) (call : LibFn) (checked : Bool) (count to : ℕ) : Type 0 where
+  pub number : ℕ
+  pub stands : StandsAt l (instr.Host to number count)
+  pub is : call_of number ≡ Some (call, checked)
+  pub takes : form_takes call checked count ≡ true
+
 -- the first argument slots
 abbrev pub slots_from : ℕ → ℕ → List ℕ → List ℕ
 slots_from at zero slots = []
@@ -74,37 +84,121 @@ slots_from at (suc n) slots = slice_index slots at ∷ slots_from (at + 1) n slo
 abbrev pub operands : LibFn → List ℕ → List ℕ
 operands f slots = slots_from 0 (length (row_of f).parameters) slots
 
--- a call did to memory what its row says, and nothing where it has no row
-abbrev pub Did : Option Row → List ℕ → List ℕ → List ℕ → Option (Result ℕ HostStop) → Type 0
-Did None args old new None = new ≡ old
-Did None args old new (Some result) = ⊥
-Did (Some row) args old new None = ⊥
-Did (Some row) args old new (Some result) = Does args (run (on_bytes args) row old quiet) old new result
+-- the library's row of a call that moves bytes in memory, whose destination has this size
+abbrev pub memory_row : LibFn → ℕ → Option Row
+memory_row calls.Memcpy size = Some (table.memcpy size)
+memory_row calls.Memmove size = Some (table.memmove size)
+memory_row calls.Mempcpy size = Some (table.mempcpy size)
+memory_row calls.Memset size = Some (table.memset size)
+memory_row calls.Bzero size = Some (table.bzero size)
+memory_row calls.ExplicitBzero size = Some (table.bzero size)
+memory_row calls.Memcmp size = Some table.memcmp
+memory_row calls.Strcpy size = Some (table.strcpy size)
+memory_row calls.Stpcpy size = Some (table.stpcpy size)
+memory_row calls.Strncpy size = Some (table.strncpy size)
+memory_row calls.Strcat size = Some (table.strcat size)
+memory_row calls.Strncat size = Some (table.strncat size)
+memory_row calls.Strlen size = Some table.strlen
+memory_row calls.Strcmp size = Some table.strcmp
+memory_row calls.Strchr size = Some table.strchr
+memory_row _ size = None
 
--- a call that neither ends the run, acts on the heap nor writes
+-- such a call did to memory what its row says
+abbrev pub Did : Option Row → List ℕ → List ℕ → List ℕ → Result ℕ HostStop → Type 0
+Did None args old new result = ⊥
+Did (Some row) args old new result = Does args (run (on_bytes args) row old quiet) old new result
+
+-- a call that moves bytes in memory
 abbrev pub is_plain : LibFn → Bool
-is_plain calls.Exit = false
-is_plain calls.Abort = false
-is_plain calls.Malloc = false
-is_plain calls.Calloc = false
-is_plain calls.Realloc = false
-is_plain calls.Free = false
-is_plain calls.Puts = false
-is_plain calls.Putchar = false
-is_plain calls.Write = false
-is_plain _ = true
+is_plain calls.Memcpy = true
+is_plain calls.Memmove = true
+is_plain calls.Mempcpy = true
+is_plain calls.Memset = true
+is_plain calls.Bzero = true
+is_plain calls.ExplicitBzero = true
+is_plain calls.Memcmp = true
+is_plain calls.Strcpy = true
+is_plain calls.Stpcpy = true
+is_plain calls.Strncpy = true
+is_plain calls.Strcat = true
+is_plain calls.Strncat = true
+is_plain calls.Strlen = true
+is_plain calls.Strcmp = true
+is_plain calls.Strchr = true
+is_plain _ = false
 
 -- a call that ends the run or acts on the heap
 abbrev pub acts : LibFn → Bool
 acts calls.Exit = true
 acts calls.Abort = true
+acts calls.Malloc = true
+acts calls.Calloc = true
+acts calls.Realloc = true
+acts calls.Free = true
 acts _ = false
+
+-- a call that moves bytes on the streams, and is no print
+abbrev pub uses_streams : LibFn → Bool
+uses_streams calls.Puts = true
+uses_streams calls.Putchar = true
+uses_streams calls.Read = true
+uses_streams calls.Write = true
+uses_streams calls.Getchar = true
+uses_streams calls.Note = true
+uses_streams _ = false
 
 -- the machine stands at an instruction that stops it so
 pub record Halts (l : Loaded) (stop : HostStop) : Type 0 where
   pub i : Instr
   pub stands : StandsAt l i
   pub does : (input : Input) → perform l.program i (begun l.core input) ≡ stopping stop (begun l.core input)
+
+-- a sink
+abbrev pub IsSink : Stream → Type 0
+IsSink OfInput = ⊥
+IsSink OfOut = Unit {0}
+IsSink OfErr = Unit {0}
+
+-- the others of the streams are as they were
+abbrev pub MovesAlone : Stream → Streams → Streams → Type 0
+MovesAlone OfInput old new = (new.out ≡ old.out) × (new.err ≡ old.err)
+MovesAlone OfOut old new = (new.input ≡ old.input) × (new.err ≡ old.err)
+MovesAlone OfErr old new = (new.input ≡ old.input) × (new.out ≡ old.out)
+
+-- a row that reads, and shows on one descriptor alone
+abbrev pub ShowsOn : ℕ → Row → Type 0
+ShowsOn d (Gives g) = Unit {0}
+ShowsOn d Malformed = Unit {0}
+ShowsOn d (Check true next) = ⊥
+ShowsOn d (Check false next) = ShowsOn d next
+ShowsOn d (Ask i next) = (n : ℕ) → ShowsOn d (next n)
+ShowsOn d (Text stops from next) = (f : Found) → ShowsOn d (next f)
+ShowsOn d (Bytes from next) = (bs : List ℕ) → ShowsOn d (next bs)
+ShowsOn d (Both a b next) = ⊥
+ShowsOn d (Point pointers touched next) = ShowsOn d next
+ShowsOn d (Touch all next) = ⊥
+ShowsOn d (Apart strict to reads next) = ⊥
+ShowsOn d (Store i k what next) = ⊥
+ShowsOn d (Show e bs next) = (e ≡ d) × ShowsOn d next
+ShowsOn d (Take n next) = ⊥
+
+-- a machine stands at a library call that acts by a row with these arguments, its result in a register
+pub record ActsBy (l : Loaded) (to : ℕ) (args : List ℕ) (row : Row) : Type 0 where
+  pub number : ℕ
+  pub count : ℕ
+  pub stands : StandsAt l (instr.Host to number count)
+  pub does : (input : Input) → perform l.program (instr.Host to number count) (begun l.core input) ≡ by_row to args row (begun l.core input)
+
+-- the call that a machine stands at has done on a sink what its row says
+pub record HasWritten (l : Loaded) (to : ℕ) (which : Stream) (result : Result ℕ HostStop) (old new : Streams) : Type 0 where
+  pub args : List ℕ
+  pub row : Row
+  pub acts : ActsBy l to args row
+  pub sink : IsSink which
+  pub shows : ShowsOn (descriptor_of which) row
+  pub wrote : Writes args (run (on_bytes args) row l.core.memory quiet) result (state_of which old) (state_of which new)
+  pub grew : (state_of which old).faults ≤ (state_of which new).faults
+  pub alone : MovesAlone which old new
 
 -- control goes on behind the instruction that a machine stands at
 abbrev pub GoesOn : Loaded → Type 0

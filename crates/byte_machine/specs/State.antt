@@ -1,27 +1,30 @@
 -- The machine's state and the table of its instructions. It knows addresses and numbers alone. This project's own.
-use Rattle.std.specs.Prelude.{ℕ, zero, suc, ◌+◌, ◌%◌, ◌^◌, List, [], ◌∷◌, ◌++◌, length, Bool, ◌&&◌, ◌||◌, not, ◌==◌, nat_lt, nat_le, cond, Option, None, Some, slice_get, slice_index, slice_range, slice_set, replicate, is_some, true, false, ◌-◌, take, sum_by, ◌*◌, min, Result, Ok, Err}
+use Rattle.std.specs.Prelude.{ℕ, zero, suc, ◌+◌, ◌%◌, ◌^◌, List, [], ◌∷◌, ◌++◌, length, Bool, ◌&&◌, ◌||◌, not, ◌==◌, nat_lt, nat_le, cond, Option, None, Some, slice_get, slice_index, slice_range, slice_set, replicate, is_some, true, false, ◌-◌, take, drop, sum_by, ◌*◌, min, Result, Ok, Err}
 use Rattle.std.specs.List.{splice}
 use Rattle.std.specs.Int.{from_le_bytes, to_le_bytes, w16, w32, w64}
 use Rattle.run_meaning.specs.Runs.{Shown, Standing, Ended, Going, on_descriptor}
 use Rattle.run_meaning.specs.Worlds.{World}
-use Rattle.run_meaning.specs.Events.{overflow_line}
+use Rattle.run_meaning.specs.Events.{overflow_line, size_line}
 use Rattle.fc_base.specs.declared.levels.End.{End}
 use Rattle.fc_base.specs.declared.levels.End.TheVariants as ends
+use Rattle.fc_base.specs.declared.levels.Mode.{Mode}
+use Rattle.fc_base.specs.declared.levels.Mode.TheVariants as modes
 use Rattle.bm_isa.specs.declared.instructions.Instr.{Instr}
 use Rattle.bm_isa.specs.declared.instructions.Instr.TheVariants as instr
 use Rattle.c_library.specs.declared.functions.LibFn.{LibFn}
 use Rattle.c_library.specs.declared.functions.LibFn.TheVariants as calls
 use Rattle.c_library.specs.Library.{row_of, call_of}
 use Rattle.bm_image.specs.declared.images.FnRec.{FnRec}
-use Rattle.bm_image.specs.Images.{function_at}
+use Rattle.bm_image.specs.Images.{function_at, slots_of}
 use Rattle.fc_base.specs.declared.levels.Width.{Width}
 use Rattle.fc_base.specs.declared.levels.Width.TheVariants as widths
 use Rattle.fc_base.specs.Widths.{width_bytes, extended}
 use Rattle.bm_arithmetic.specs.Arithmetic.{binary_value, divide_value}
 use Rattle.bm_heap.specs.Heaps.{Heap, place_for, block_at, after_take, after_give}
-use Rattle.library_meaning.specs.Rows.{Row, Answer, run}
+use Rattle.library_meaning.specs.Rows.{Row, Ask, Show, Gives, Count, Answer, run}
 use Rattle.library_meaning.specs.Table as table
 use Rattle.library_meaning.specs.Table.{no_limit}
+use Rattle.library_meaning.specs.Prints as prints
 use Rattle.library_meaning.specs.OnBytes.{on_bytes, number_of}
 use Rattle.library_meaning.specs.declared.stops.HostStop.{HostStop}
 use Rattle.library_meaning.specs.declared.stops.HostStop.TheVariants as host
@@ -147,39 +150,13 @@ showing shown s = record s { world = record s.world { shown = s.world.shown ++ s
 abbrev pub overflowing : State → State
 overflowing s = showing (on_descriptor 2 overflow_line) (with_core (ending ends.Overflow s.core) s)
 
--- the arguments of a library call, and the destination's size: that of a checked form stands behind them, and a plain form has no
--- limit
+-- the arguments of a library call that has a fixed number of them, and the destination's size: that of a checked form stands behind
+-- them, and a plain form has no limit
 abbrev pub arguments : LibFn → Core → List ℕ
 arguments f core = take (length (row_of f).parameters) core.slots
 
 abbrev pub size_of : LibFn → Bool → Core → ℕ
 size_of f checked core = cond checked (slot_value core (length (row_of f).parameters)) no_limit
-
--- the library's row of a call that moves bytes in memory, whose destination has this size
-abbrev pub memory_row : LibFn → ℕ → Option Row
-memory_row calls.Memcpy size = Some (table.memcpy size)
-memory_row calls.Memmove size = Some (table.memmove size)
-memory_row calls.Mempcpy size = Some (table.mempcpy size)
-memory_row calls.Memset size = Some (table.memset size)
-memory_row calls.Bzero size = Some (table.bzero size)
-memory_row calls.ExplicitBzero size = Some (table.bzero size)
-memory_row calls.Memcmp size = Some table.memcmp
-memory_row calls.Strcpy size = Some (table.strcpy size)
-memory_row calls.Stpcpy size = Some (table.stpcpy size)
-memory_row calls.Strncpy size = Some (table.strncpy size)
-memory_row calls.Strcat size = Some (table.strcat size)
-memory_row calls.Strncat size = Some (table.strncat size)
-memory_row calls.Strlen size = Some table.strlen
-memory_row calls.Strcmp size = Some table.strcmp
-memory_row calls.Strchr size = Some table.strchr
-memory_row _ size = None
-
--- the same, and those of the calls that write
-abbrev pub row_for : LibFn → ℕ → Option Row
-row_for calls.Puts size = Some table.puts
-row_for calls.Putchar size = Some table.putchar
-row_for calls.Write size = Some table.write
-row_for f size = memory_row f size
 
 -- a call stops the machine. No row over bytes stops with a fault of a stream
 abbrev pub stopping : HostStop → State → State
@@ -194,9 +171,47 @@ abbrev pub answered : ℕ → List ℕ → Result (Answer (List ℕ)) HostStop �
 answered to args (Ok a) s = record { core = giving to (number_of args a.given) (record s.core { memory = a.memory }); world = a.world }
 answered to args (Err stop) s = stopping stop s
 
-abbrev pub by_row : ℕ → List ℕ → Option Row → State → State
-by_row to args None s = s
-by_row to args (Some row) s = answered to args (run (on_bytes args) row s.core.memory s.world) s
+abbrev pub by_row : ℕ → List ℕ → Row → State → State
+by_row to args row s = answered to args (run (on_bytes args) row s.core.memory s.world) s
+
+-- a call by the row of its arguments, and by one that is also told the destination's size
+abbrev pub acting : LibFn → Row → ℕ → State → State
+acting f row to s = by_row to (arguments f s.core) row s
+
+abbrev pub acting_within : LibFn → (ℕ → Row) → Bool → ℕ → State → State
+acting_within f row checked to s = by_row to (arguments f s.core) (row (size_of f checked s.core)) s
+
+-- how many arguments follow the format of a print, where it is passed so many slots
+abbrev pub passed : LibFn → Bool → ℕ → ℕ
+passed f checked count = count - slots_of f checked
+
+-- the arguments of a print into memory: the size of its checked form stands in slot k, before the format
+abbrev pub print_arguments : ℕ → Bool → ℕ → Core → List ℕ
+print_arguments k checked count core =
+    let given = take count core.slots in
+    cond checked (take k given ++ drop (k + 1) given) given
+
+abbrev pub print_size : ℕ → Bool → Core → ℕ
+print_size k checked core = cond checked (slot_value core k) no_limit
+
+-- a print on a descriptor, and one into memory, by its row
+abbrev pub printing : LibFn → (ℕ → Row) → Bool → ℕ → ℕ → State → State
+printing f row checked count to s = by_row to (take count s.core.slots) (row (passed f checked count)) s
+
+abbrev pub printing_within : LibFn → ℕ → (ℕ → ℕ → Row) → Bool → ℕ → ℕ → State → State
+printing_within f k row checked count to s =
+    by_row to (print_arguments k checked count s.core) (row (passed f checked count) (print_size k checked s.core)) s
+
+-- note(line, column, mode, value): the size line of these numbers, in the mode of the third one's two low bits, on standard error.
+-- No source can call it
+abbrev pub mode_at : ℕ → Mode
+mode_at n = cond (n == 0) modes.M0 (cond (n == 1) modes.M1 (cond (n == 2) modes.M2 modes.M3))
+
+abbrev pub note_line : ℕ → ℕ → ℕ → ℕ → List ℕ
+note_line line column mode value = size_line (record { line = line; col = column }) (mode_at (mode % 4)) value
+
+abbrev pub note : Row
+note = Ask 0 (λ line. Ask 1 (λ column. Ask 2 (λ mode. Ask 3 (λ value. Show 2 (note_line line column mode value) (Gives (Count 0))))))
 
 -- the address of a block that was found, or a null pointer
 abbrev pub block_address : Option ℕ → ℕ
@@ -248,21 +263,44 @@ resized to address n (Some size) core = replaced to address (min size n) n (plac
 abbrev pub reallocating : ℕ → ℕ → ℕ → Core → Core
 reallocating to address n core = cond (address == 0) (allocating to n core) (resized to address n (block_in core.heap address) core)
 
--- what a library call does, checked or not, with the register of its result: it ends the run, acts on the heap, or does what its
--- row says. The prints and the calls that read aren't built, and do nothing yet
-abbrev pub host_call : LibFn → Bool → ℕ → State → State
-host_call calls.Exit checked to s = with_core (ending (ends.Exit (slot_value s.core 0 % 256)) s.core) s
-host_call calls.Abort checked to s = with_core (ending ends.Abort s.core) s
-host_call calls.Malloc checked to s = with_core (allocating to (slot_value s.core 0) s.core) s
-host_call calls.Calloc checked to s = with_core (clearing to (slot_value s.core 0 * slot_value s.core 1) s.core) s
-host_call calls.Realloc checked to s = with_core (reallocating to (slot_value s.core 0) (slot_value s.core 1) s.core) s
-host_call calls.Free checked to s = with_core (freeing to (slot_value s.core 0) s.core) s
-host_call f checked to s = by_row to (arguments f s.core) (row_for f (size_of f checked s.core)) s
+-- what a library call does, checked or not, that is passed so many slots, with the register of its result
+abbrev pub host_call : LibFn → Bool → ℕ → ℕ → State → State
+host_call calls.Exit checked count to s = with_core (ending (ends.Exit (slot_value s.core 0 % 256)) s.core) s
+host_call calls.Abort checked count to s = with_core (ending ends.Abort s.core) s
+host_call calls.Malloc checked count to s = with_core (allocating to (slot_value s.core 0) s.core) s
+host_call calls.Calloc checked count to s = with_core (clearing to (slot_value s.core 0 * slot_value s.core 1) s.core) s
+host_call calls.Realloc checked count to s = with_core (reallocating to (slot_value s.core 0) (slot_value s.core 1) s.core) s
+host_call calls.Free checked count to s = with_core (freeing to (slot_value s.core 0) s.core) s
+host_call calls.Memcpy checked count to s = acting_within calls.Memcpy table.memcpy checked to s
+host_call calls.Memmove checked count to s = acting_within calls.Memmove table.memmove checked to s
+host_call calls.Mempcpy checked count to s = acting_within calls.Mempcpy table.mempcpy checked to s
+host_call calls.Memset checked count to s = acting_within calls.Memset table.memset checked to s
+host_call calls.Bzero checked count to s = acting_within calls.Bzero table.bzero checked to s
+host_call calls.ExplicitBzero checked count to s = acting_within calls.ExplicitBzero table.bzero checked to s
+host_call calls.Memcmp checked count to s = acting calls.Memcmp table.memcmp to s
+host_call calls.Strcpy checked count to s = acting_within calls.Strcpy table.strcpy checked to s
+host_call calls.Stpcpy checked count to s = acting_within calls.Stpcpy table.stpcpy checked to s
+host_call calls.Strncpy checked count to s = acting_within calls.Strncpy table.strncpy checked to s
+host_call calls.Strcat checked count to s = acting_within calls.Strcat table.strcat checked to s
+host_call calls.Strncat checked count to s = acting_within calls.Strncat table.strncat checked to s
+host_call calls.Strlen checked count to s = acting calls.Strlen table.strlen to s
+host_call calls.Strcmp checked count to s = acting calls.Strcmp table.strcmp to s
+host_call calls.Strchr checked count to s = acting calls.Strchr table.strchr to s
+host_call calls.Printf checked count to s = printing calls.Printf prints.printf checked count to s
+host_call calls.Puts checked count to s = acting calls.Puts table.puts to s
+host_call calls.Putchar checked count to s = acting calls.Putchar table.putchar to s
+host_call calls.Dprintf checked count to s = printing calls.Dprintf prints.dprintf checked count to s
+host_call calls.Sprintf checked count to s = printing_within calls.Sprintf 1 prints.sprintf checked count to s
+host_call calls.Snprintf checked count to s = printing_within calls.Snprintf 2 prints.snprintf checked count to s
+host_call calls.Read checked count to s = acting_within calls.Read table.read checked to s
+host_call calls.Write checked count to s = acting calls.Write table.write to s
+host_call calls.Getchar checked count to s = acting calls.Getchar table.getchar to s
+host_call calls.Note checked count to s = acting calls.Note note to s
 
 -- the call of a number. A number that names none stands in no image
-abbrev pub numbered_call : Option (LibFn × Bool) → ℕ → State → State
-numbered_call None to s = s
-numbered_call (Some call) to s = host_call call.0 call.1 to s
+abbrev pub numbered_call : Option (LibFn × Bool) → ℕ → ℕ → State → State
+numbered_call None count to s = s
+numbered_call (Some call) count to s = host_call call.0 call.1 count to s
 
 -- the live calls from the newest on, and what their frames and their weights sum to
 abbrev pub live : Core → List Window
@@ -343,7 +381,7 @@ perform program (instr.JumpIfNotZero test target) s = with_core (going_if (not (
 perform program (instr.Argument from k) s = with_core (passing from k s.core) s
 perform program (instr.Call to function) s = with_core (calling program function (function_at program.functions function) s.core) s
 perform program (instr.Return from) s = with_core (returning program (register s.core from) s.core.callers s.core) s
-perform program (instr.Host to call count) s = numbered_call (call_of call) to s
+perform program (instr.Host to call count) s = numbered_call (call_of call) count to s
 
 -- the instruction that is there, if there is one
 abbrev pub performed : Program → Option Instr → State → State

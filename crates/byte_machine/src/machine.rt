@@ -1,24 +1,28 @@
 //! The machine while it runs.
 
-ghost use Rattle.std.specs.Prelude.{◌≡◌, ◌≢◌, ℕ, ◌+◌, ◌≤◌, ◌<◌, None, Some, IfSome, IfOk, true, false, length, replicate};
+ghost use Rattle.std.specs.Prelude.{◌≡◌, ◌≢◌, ℕ, ◌+◌, ◌≤◌, ◌<◌, Option, None, Some, IfSome, IfOk, true, false, length, replicate};
 ghost use Rattle.std.specs.Option.{option_map};
 ghost use Rattle.fc_base.specs.declared.levels.End.{End};
 ghost use Rattle.run_meaning.specs.Objects.{Streams, StreamState, stream, streams, Failed, NoneFell};
 ghost use Rattle.run_meaning.specs.declared.streams.Stream.{Stream};
 ghost use Rattle.bm_image.specs.Images.{plain_image, IsImage, function_at, bounds_of, host_takes, fits};
 ghost use Rattle.c_library.specs.declared.functions.LibFn.{LibFn};
-ghost use Rattle.byte_machine.specs.State.{after, register, slot_value, giving, going_on, going_to, is_full, frame_of, entering, result_register, size_of, arguments, memory_row};
+ghost use Rattle.byte_machine.specs.State.{after, register, slot_value, giving, going_on, going_to, is_full, frame_of, entering, result_register, size_of, arguments};
 ghost use Rattle.library_meaning.specs.declared.stops.HostStop.{HostStop};
 ghost use Rattle.byte_machine.specs.Calls.{waits};
 ghost use Rattle.library_meaning.specs.Memory.{are_valid, put, bytes_at};
 ghost use Rattle.byte_machine.specs.Opening.{program_of, first_core, first_end};
 ghost use Rattle.run_meaning.specs.Worlds.{ArgumentsFit, World};
 ghost use Rattle.byte_machine.specs.Machines.{fault_of, Advances, FailsAfter};
-ghost use Rattle.byte_machine.specs.Performing.{IsGoing, StandsAt, StandsAtCall, Names, GoesOn, Lands, stopped_with, Performs, Enters, resuming, Did, Halts, is_plain, acts};
+ghost use Rattle.byte_machine.specs.Performing.{IsGoing, StandsAt, StandsAtCall, Names, GoesOn, Lands, stopped_with, Performs, Enters, resuming, Did, Halts, memory_row, is_plain, acts};
 ghost use Rattle.byte_machine.specs.Straight.{leaves_call};
 
+mod heap_calls;
+mod print_calls;
+mod stream_calls;
+
 use crate::opening::{open_memory, open_stop, open_windows};
-use crate::rows::{is_plain, on_memory};
+use crate::rows::{acts, is_plain, on_memory};
 use crate::stack::{STACK_FRAMES, STACK_START, STACK_WEIGHTS, least_weight};
 use crate::straight::{Functions, Next};
 use crate::windows::Windows;
@@ -373,15 +377,19 @@ impl Machine {
             Some((f, checked)) => {
                 if is_plain(f) {
                     self.move_bytes(f, checked, to, err)
-                } else {
+                } else if acts(f) {
                     self.act(f, checked, to)
+                } else if f.is_variadic() {
+                    self.print(f, checked, to, count, out, err)
+                } else {
+                    self.use_streams(f, checked, to, input, out, err)
                 }
             }
             None => unreachable!(),
         }
     }
 
-    /// A call that ends the run.
+    /// A call that ends the run or acts on the heap.
     fn act(&mut self, f: LibFn, checked: bool, to: u32) -> Step
         requires running { IsGoing self.old }
         requires call { StandsAtCall self.old f checked to }
@@ -392,6 +400,10 @@ impl Machine {
         match f {
             LibFn::Exit => self.exit(checked, to),
             LibFn::Abort => self.abort(checked, to),
+            LibFn::Malloc => self.malloc(checked, to),
+            LibFn::Calloc => self.calloc(checked, to),
+            LibFn::Realloc => self.realloc(checked, to),
+            LibFn::Free => self.free(checked, to),
             _ => unreachable!(),
         }
     }
@@ -419,7 +431,7 @@ impl Machine {
         self.stop(Stop::Ended(End::Abort))
     }
 
-    /// A call that moves bytes in memory, by its row. One that has none does nothing.
+    /// A call that moves bytes in memory, by its row.
     fn move_bytes<E: Sink>(&mut self, f: LibFn, checked: bool, to: u32, err: &mut E) -> Step
         requires running { IsGoing self.old }
         requires call { StandsAtCall self.old f checked to }
@@ -432,9 +444,8 @@ impl Machine {
     {
         let size = self.size_of(f, checked);
         match self.on_memory(f, size) {
-            Some(Ok(number)) => self.give(to, number),
-            Some(Err(stop)) => self.halt(stop, err),
-            None => Step::Going,
+            Ok(number) => self.give(to, number),
+            Err(stop) => self.halt(stop, err),
         }
     }
 
@@ -450,7 +461,8 @@ impl Machine {
     }
 
     /// Carries out a call on the bytes of memory.
-    fn on_memory(&mut self, f: LibFn, size: u64) -> Option<Result<u64, HostStop>>
+    fn on_memory(&mut self, f: LibFn, size: u64) -> Result<u64, HostStop>
+        requires { is_plain f ≡ true }
         ensures state { self.new ≡ record self.old { core = record self.old.core { memory = self.new.core.memory } } }
         ensures did { Did (memory_row f size) (arguments f self.old.core) self.old.core.memory self.new.core.memory result }
     {

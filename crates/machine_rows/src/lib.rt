@@ -5,6 +5,8 @@
 #[cfg(test)]
 mod calls;
 #[cfg(test)]
+mod heap;
+#[cfg(test)]
 mod memory;
 #[cfg(test)]
 mod numbers;
@@ -16,5 +18,7 @@ mod operands;
 mod programs;
 #[cfg(test)]
 mod stacks;
+#[cfg(test)]
+mod streams;
 #[cfg(test)]
 mod values;

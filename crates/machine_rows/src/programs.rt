@@ -15,13 +15,18 @@ const ALONE: FnRec = FnRec {
     frame: 32,
 };
 
-/// The bytes of an image without data that begins with its first function.
-fn image_bytes(alloc: Global, functions: &[FnRec], code: &[Instr]) -> Result<Vec<u8>, NoMemory> {
+/// The bytes of an image that begins with its first function.
+fn image_bytes(
+    alloc: Global,
+    functions: &[FnRec],
+    code: &[Instr],
+    data: &[u8],
+) -> Result<Vec<u8>, NoMemory> {
     let mut bytes = Vec::new(alloc);
     bytes.extend_from_slice(b"FC3IMAGE")?;
-    let counts = [functions.len(), code.len()];
-    for word in [1, counts[0] % 0x1_0000, counts[1] % 0x1_0000, 0, 0, 0] {
-        bytes.extend_from_slice(&(word as u32).to_le_bytes())?;
+    bytes.extend_from_slice(&1u32.to_le_bytes())?;
+    for count in [functions.len(), code.len(), data.len(), 0, 0] {
+        bytes.extend_from_slice(&((count % 0x1_0000) as u32).to_le_bytes())?;
     }
     for f in functions {
         for word in [f.first, f.params, f.regs, f.weight, f.frame] {
@@ -31,7 +36,31 @@ fn image_bytes(alloc: Global, functions: &[FnRec], code: &[Instr]) -> Result<Vec
     for instruction in code {
         bytes.extend_from_slice(&encode(instruction))?;
     }
+    bytes.extend_from_slice(data)?;
     Ok(bytes)
+}
+
+/// The image of one function, and a data section.
+pub fn image_of(alloc: Global, code: &[Instr], data: &[u8]) -> Result<Vec<u8>, NoMemory> {
+    image_bytes(alloc, &[ALONE], code, data)
+}
+
+/// A program that makes a library call with these arguments and returns its result.
+pub fn calling(alloc: Global, call: u32, args: &[u64]) -> Result<Vec<Instr>, NoMemory> {
+    let mut code = Vec::new(alloc);
+    let mut slot = 0;
+    for &number in args {
+        code.push(Instr::Const { to: 0, number })?;
+        code.push(Instr::Argument { from: 0, slot })?;
+        slot = slot.wrapping_add(1);
+    }
+    code.push(Instr::Host {
+        to: 0,
+        call,
+        count: slot,
+    })?;
+    code.push(Instr::Return { from: 0 })?;
+    Ok(code)
 }
 
 /// The end of a run, where the stop is one.
@@ -54,7 +83,7 @@ pub fn end_within(
     code: &[Instr],
     steps: u64,
 ) -> Result<Option<End>, NoMemory> {
-    let bytes = image_bytes(alloc, functions, code)?;
+    let bytes = image_bytes(alloc, functions, code, b"")?;
     match read_image(alloc, &bytes) {
         Ok(image) => {
             let mut machine = Machine::open(alloc, &image, &Words::new(alloc))?;

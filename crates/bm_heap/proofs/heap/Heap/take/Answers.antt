@@ -76,3 +76,11 @@ invariant_of-self-2 c =
       places = places;
       room = let room = c.take_from.ensures.room in let most = c.self.invariant.room in omega (arith, room, most);
     }
+
+pub returns-clause-inside : goal.returns-clause-inside
+returns-clause-inside c =
+    let h = c.self.inside in
+    let n = c.args.size in
+    let found : first_fit (block_bytes n) h.holes.items ≡ Some c.in_ok-place.place = ap (λ n. first_fit n h.holes.items)
+    (sym c.block_bytes.ensures) ∙ sym c.in_ok-place.ensures.place in
+    rw c.from.ensures (place_inside h.holes.items (block_at (heap_of h)) n c.in_ok-place.place c.self.invariant.heap found)
