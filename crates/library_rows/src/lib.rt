@@ -7,6 +7,8 @@ mod blocks;
 #[cfg(test)]
 mod calls;
 #[cfg(test)]
+mod conversions;
+#[cfg(test)]
 mod memory;
 #[cfg(test)]
 mod moving;

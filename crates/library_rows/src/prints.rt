@@ -14,9 +14,11 @@ use std::process::Abort;
 use std::test::Fail;
 
 /// Where a print into memory stores, and where a string of ours stands.
-const TO: u64 = A + 16384;
+pub const TO: u64 = A + 16384;
 
-const STRING: u64 = A + 8192;
+pub const STRING: u64 = A + 8192;
+
+const POINTS: &[u8] = b"..............................";
 
 /// A format with its argument, and what is printed.
 type Printed = (&'static [u8], u64, &'static [u8]);
@@ -75,6 +77,31 @@ const NUMBERS: &[Printed] = &[
     (b"%hX", NO_SIZE, b"FFFF"),
     (b"%hhX", 256, b"0"),
     (b"%lX", NO_SIZE, b"FFFFFFFFFFFFFFFF"),
+    (b"%lld", 9223372036854775807, b"9223372036854775807"),
+    (b"%llu", 0, b"0"),
+    (b"%zu", 0, b"0"),
+    (b"%hho", 0, b"0"),
+    (b"%ho", 0, b"0"),
+    (b"%lo", 0, b"0"),
+    (b"%llo", NO_SIZE, b"1777777777777777777777"),
+    (b"%zo", NO_SIZE, b"1777777777777777777777"),
+    (b"%zo", 0, b"0"),
+    (b"%hhx", 0, b"0"),
+    (b"%hx", 0, b"0"),
+    (b"%lx", 0, b"0"),
+    (b"%llx", NO_SIZE, b"ffffffffffffffff"),
+    (b"%llx", 0, b"0"),
+    (b"%zx", NO_SIZE, b"ffffffffffffffff"),
+    (b"%zx", 0, b"0"),
+    (b"%hhX", NO_SIZE, b"FF"),
+    (b"%hX", 0, b"0"),
+    (b"%X", NO_SIZE, b"FFFFFFFF"),
+    (b"%X", 0, b"0"),
+    (b"%lX", 0, b"0"),
+    (b"%llX", NO_SIZE, b"FFFFFFFFFFFFFFFF"),
+    (b"%llX", 0, b"0"),
+    (b"%zX", NO_SIZE, b"FFFFFFFFFFFFFFFF"),
+    (b"%zX", 0, b"0"),
 ];
 
 /// Each flag with each conversion, and field widths.
@@ -139,7 +166,7 @@ const FLAGS: &[Printed] = &[
 ];
 
 /// Whether the format at A prints the text on a sink that has just the room.
-fn is_written(mem: &[u8], alloc: Global, value: u64, text: &[u8]) -> Result<bool, NoMemory>
+pub fn is_written(mem: &[u8], alloc: Global, value: u64, text: &[u8]) -> Result<bool, NoMemory>
     requires { length mem.now ≡ memory_size }
 {
     let mut sink = MemSink::sized(alloc, text.len())?;
@@ -153,25 +180,30 @@ fn stands(mem: &[u8], text: &[u8]) -> bool {
     stand(mem, TO, text) && stand(mem, end, b"\0.")
 }
 
+/// Stores points at the destination, and where the text ends.
+fn store_points(mem: &mut [u8], text: &[u8]) {
+    store(mem, TO, POINTS);
+    store(mem, TO.wrapping_add(text.len() as u64), b"..");
+}
+
 /// Whether the format at A prints the text into memory, cut to what there is room for.
-fn is_stored(mem: &mut [u8], value: u64, text: &[u8]) -> bool
+pub fn is_stored(mem: &mut [u8], value: u64, text: &[u8]) -> bool
     requires { length mem.old ≡ memory_size }
 {
     let gives = Answer::Number(text.len() as u64);
     let fits = (text.len() as u64).wrapping_add(1);
-    let points = b"..............................";
-    store(mem, TO, points);
+    store_points(mem, text);
     let over = answers(
         print_mem(mem, TO, 0, text.len() as u64, A, &[value], false),
         0,
         Answer::Overflow,
-    ) && stand(mem, TO, points);
+    ) && stand(mem, TO, POINTS);
     let whole = answers(print_mem(mem, TO, 0, fits, A, &[value], false), 0, gives)
         && stands(mem, text);
-    store(mem, TO, points);
+    store_points(mem, text);
     let bounded = answers(print_mem(mem, TO, fits, fits, A, &[value], true), 0, gives)
         && stands(mem, text);
-    store(mem, TO, points);
+    store_points(mem, text);
     let cut = &text[..text.len().min(2)];
     let short = answers(print_mem(mem, TO, 3, 3, A, &[value], true), 0, gives) && stands(mem, cut);
     over && whole && bounded && short
@@ -234,7 +266,7 @@ const MALFORMED: &[&[u8]] = &[
 ];
 
 /// Whether the format at A is refused by each print, and nothing is written or stored.
-fn is_malformed(mem: &mut [u8], sink: &mut MemSink) -> bool
+pub fn is_malformed(mem: &mut [u8], sink: &mut MemSink) -> bool
     requires { length mem.old ≡ memory_size }
 {
     let written = answers(print_out(mem, sink, A, &[0]), 0, Answer::BadFormat);

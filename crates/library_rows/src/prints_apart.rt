@@ -248,6 +248,31 @@ const EDGES: &[Row] = &[
         Answer::BadFormat,
         b"%s%d\0",
     ),
+    // what is read to learn the request comes before the check of `sprintf`, and behind that of `snprintf`
+    (
+        b"%s\0",
+        (A + 9, None, 0, A, &[0]),
+        Answer::BadAddress,
+        b"%s\0",
+    ),
+    (
+        b"%k\0",
+        (A + 9, None, 0, A, &[0]),
+        Answer::BadFormat,
+        b"%k\0",
+    ),
+    (
+        b"%s\0",
+        (A + 9, Some(9), 8, A, &[0]),
+        Answer::Overflow,
+        b"%s\0",
+    ),
+    (
+        b"%s\0",
+        (A + 9, Some(9), 8, 0, &[0]),
+        Answer::Overflow,
+        b"%s\0",
+    ),
 ];
 
 /// The rows of the buffers: `char b[6]` with `%d`, `char c[4]` with a count of 10, and a count of 0; and a text of several arguments.
@@ -300,6 +325,104 @@ const BUFFERS: &[Row] = &[
         Answer::Number(1),
         b"%d\x001\0",
     ),
+    (
+        b"%d\0.......",
+        (A + 3, None, 7, A, &[12345]),
+        Answer::Number(5),
+        b"%d\x0012345\0.",
+    ),
+    (
+        b"hi\0....",
+        (A + 3, Some(4), 4, A, &[]),
+        Answer::Number(2),
+        b"hi\0hi\0.",
+    ),
+    (
+        b"hi\0....",
+        (A + 3, Some(3), 4, A, &[]),
+        Answer::Number(2),
+        b"hi\0hi\0.",
+    ),
+    (
+        b"hi\0....",
+        (A + 3, Some(2), 4, A, &[]),
+        Answer::Number(2),
+        b"hi\0h\0..",
+    ),
+    (
+        b"hi\0....",
+        (A + 3, Some(1), 4, A, &[]),
+        Answer::Number(2),
+        b"hi\0\0...",
+    ),
+    (
+        b"hi\0....",
+        (A + 3, Some(5), 4, A, &[]),
+        Answer::Overflow,
+        b"hi\0....",
+    ),
+];
+
+/// Texts that go up to the end of memory without a NUL, where `ab` stands at its end.
+const LEAVING: &[Row] = &[
+    (
+        b"%s\0",
+        (A + 9, None, 9, A, &[END - 2]),
+        Answer::BadAddress,
+        b"%s\0",
+    ),
+    (
+        b"%.3s\0",
+        (A + 9, None, 9, A, &[END - 2]),
+        Answer::BadAddress,
+        b"%.3s\0",
+    ),
+    (
+        b"%.2s\0....",
+        (A + 5, None, 3, A, &[END - 2]),
+        Answer::Number(2),
+        b"%.2s\0ab\0.",
+    ),
+    (
+        b"%.2s\0....",
+        (A + 5, Some(0), 0, A, &[END - 1]),
+        Answer::BadAddress,
+        b"%.2s\0....",
+    ),
+    (
+        b"....",
+        (A, None, 4, END - 2, &[]),
+        Answer::BadAddress,
+        b"....",
+    ),
+    (
+        b"....",
+        (A, Some(4), 4, END - 1, &[]),
+        Answer::BadAddress,
+        b"....",
+    ),
+    (
+        b"....",
+        (A, Some(0), 0, END, &[]),
+        Answer::BadAddress,
+        b"....",
+    ),
+];
+
+/// A format that ends at the last valid byte, and strings that do, where `%s` and a NUL stand at the end of memory.
+const ENDING: &[Row] = &[
+    (
+        b"....",
+        (A, None, 3, END - 3, &[END - 3]),
+        Answer::Number(2),
+        b"%s\0.",
+    ),
+    (
+        b"....",
+        (A, Some(2), 2, END - 3, &[END - 1]),
+        Answer::Number(0),
+        b"\0...",
+    ),
 ];
 
 fn print(mem: &mut [u8], print: Print) -> Result<u64, HostStop>
@@ -342,6 +465,22 @@ fn prints_store_apart_from_what_they_read(rt: HostRuntime) -> Result<(), Fail> {
 fn prints_touch_valid_addresses(rt: HostRuntime) -> Result<(), Fail> {
     let mut mem = zeros(rt.alloc(), 17_825_792)?;
     assert_rows(&rt, &mut mem, EDGES);
+    Ok(())
+}
+
+#[test]
+fn prints_stop_at_the_end_of_memory(rt: HostRuntime) -> Result<(), Fail> {
+    let mut mem = zeros(rt.alloc(), 17_825_792)?;
+    store(&mut mem, END - 2, b"ab");
+    assert_rows(&rt, &mut mem, LEAVING);
+    Ok(())
+}
+
+#[test]
+fn prints_read_up_to_the_end_of_memory(rt: HostRuntime) -> Result<(), Fail> {
+    let mut mem = zeros(rt.alloc(), 17_825_792)?;
+    store(&mut mem, END - 3, b"%s\0");
+    assert_rows(&rt, &mut mem, ENDING);
     Ok(())
 }
 
@@ -460,10 +599,16 @@ fn assert_unwritten(rt: &impl Abort, alloc: Global, mem: &mut [u8]) -> Result<()
         clear(mem, A, 9);
         assert!(rt; same);
     }
+    let open = answers(
+        print_out(mem, &mut sink, END - 1, &[]),
+        0,
+        Answer::BadAddress,
+    );
+    let past = answers(print_out(mem, &mut sink, END, &[]), 0, Answer::BadAddress);
     let none = answers(print_out(mem, &mut sink, A, &[]), 0, Answer::Number(0));
     store(mem, A, b"%d");
     let missing = answers(print_out(mem, &mut sink, A, &[]), 0, Answer::BadFormat);
-    assert!(rt; none && missing && sink.bytes().is_empty());
+    assert!(rt; open && past && none && missing && sink.bytes().is_empty());
     Ok(())
 }
 

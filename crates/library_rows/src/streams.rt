@@ -12,7 +12,7 @@ use std::alloc::Global;
 use std::process::Abort;
 use std::test::Fail;
 
-/// A call that writes the text at A, which is `ab`, or one character.
+/// A call that writes the text at A or at the end of memory, which is `ab`, or one character.
 #[derive(Clone, Copy)]
 enum Output {
     Write(u64, u64),
@@ -32,6 +32,12 @@ const WRITTEN: &[Written] = &[
     (Output::Putchar(65), b"A", 65),
     (Output::Putchar(321), b"A", 65),
     (Output::Putchar(NO_SIZE), b"\xff", 255),
+    // up to the last valid byte, and from the first one
+    (Output::Write(END - 3, 3), b"ab\0", 3),
+    (Output::Write(END - 1, 1), b"\0", 1),
+    (Output::Write(65536, 1), b"\0", 1),
+    (Output::Puts(END - 3), b"ab\n", 3),
+    (Output::Puts(END - 1), b"\n", 1),
 ];
 
 fn written(mem: &[u8], sink: &mut MemSink, call: Output) -> Result<u64, HostStop>
@@ -95,6 +101,7 @@ fn assert_all_written(rt: &impl Abort, alloc: Global, mem: &[u8]) -> Result<(), 
 fn sinks_of_each_room_are_written(rt: HostRuntime) -> Result<(), Fail> {
     let mut mem = zeros(rt.alloc(), 17_825_792)?;
     store(&mut mem, A, b"ab\0");
+    store(&mut mem, END - 3, b"ab\0");
     assert_all_written(&rt, rt.alloc(), &mem)?;
     Ok(())
 }
