@@ -7,6 +7,7 @@ ghost use Rattle.library_meaning.specs.Memory.{memory_size};
 
 use library_meaning::HostStop;
 use mem_chk::{memcmp_c, memcpy_c, memmove_c, memset_c};
+use print_chk::print_mem;
 use std::alloc::{AllocError, Global};
 use std::{env, io};
 use str_chk::{strcat_c, strchr_c, strcmp_c, strcpy_c, strlen_c, strncpy_c};
@@ -17,6 +18,11 @@ const FROM: u64 = 1_048_576;
 const TO: u64 = 9_437_184;
 
 const LETTER: u64 = 65_536;
+
+/// Where a format and a string for it lie.
+const FORMAT: u64 = 65_552;
+
+const STRING: u64 = 65_568;
 
 /// The longest text.
 const LONGEST: u64 = 4_194_304;
@@ -35,6 +41,13 @@ fn appended(mem: &mut [u8], n: u64) -> Result<u64, HostStop>
     }
 }
 
+/// Prints an int, a string and a long into 64 bytes.
+fn printed(mem: &mut [u8]) -> Result<u64, HostStop>
+    requires { length mem.old ≡ memory_size }
+{
+    print_mem(mem, TO, 64, 64, FORMAT, &[123_456, STRING, 48_879], true)
+}
+
 /// The call of a number, on texts of so many bytes.
 fn once(mem: &mut [u8], call: u64, n: u64) -> Result<u64, HostStop>
     requires memory { length mem.old ≡ memory_size }
@@ -50,6 +63,7 @@ fn once(mem: &mut [u8], call: u64, n: u64) -> Result<u64, HostStop>
         6 => strchr_c(mem, FROM, 98),
         7 => strcpy_c(mem, TO, FROM, NO_SIZE),
         8 => strncpy_c(mem, TO, FROM, n, n),
+        9 => printed(mem),
         _ => appended(mem, n),
     }
 }
@@ -69,11 +83,23 @@ fn all(mem: &mut [u8], call: u64, n: u64, turns: u64) -> u64
     sum
 }
 
-/// The texts, of the letter a.
+/// Stores the bytes of the format and of its string.
+fn write_format(mem: &mut [u8])
+    requires { length mem.old ≡ memory_size }
+    ensures { length mem.new ≡ memory_size }
+{
+    let format = FORMAT as usize;
+    let string = STRING as usize;
+    mem[format..format + 12].copy_from_slice(b"%d %s %05lx\0");
+    mem[string..string + 4].copy_from_slice(b"abc\0");
+}
+
+/// The texts, of the letter a, and a format.
 fn write(mem: &mut [u8], n: u64)
     requires memory { length mem.old ≡ memory_size }
     requires short { n ≤ 4194304 }
 {
+    write_format(mem);
     let _from = memset_c(mem, FROM, 97, n, n);
     let _to = memset_c(mem, TO, 97, n, n);
     let _letter = memset_c(mem, LETTER, 97, 1, 1);
