@@ -1,4 +1,9 @@
+mod Bases
+mod Copying
+mod Exchanges
+mod Filling
 mod Marked
+mod NextCells
 mod Numbers
 mod Pointers
 mod Putting

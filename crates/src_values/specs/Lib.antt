@@ -1,4 +1,6 @@
+pub mod Bracket
 pub mod Numbers
+pub mod Parts
 pub mod Rests
 pub mod Seen
 pub mod Spots

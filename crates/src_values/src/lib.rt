@@ -2,12 +2,17 @@
 #![tactic(auto)]
 
 mod cells;
+mod copies;
 mod loads;
 mod memory;
 mod moves;
 mod objects;
+mod parts;
+mod places;
+mod rules;
 mod sizes;
 mod stores;
 
 pub use memory::Memory;
 pub use object_meaning::{Cell, Ptr, PtrValue, Tag};
+pub use rules::{forgot, fresh, null};

@@ -2,30 +2,26 @@
 
 ghost use Rattle.std.specs.Prelude.{◌≡◌, ◌+◌, ◌<◌, ◌≤◌, ◌^◌, length, map, IfOk, OnOk, OnErr, true, false, []};
 ghost use Rattle.fc_base.specs.Widths.{width_bytes};
-ghost use Rattle.object_meaning.specs.Memory.{load, move_by, store, store_pointer};
-ghost use Rattle.object_meaning.specs.Objects.{is_live, size_at, begun, add, finish, fill};
-ghost use Rattle.object_meaning.specs.Provenance.{IsPointer};
+ghost use Rattle.object_meaning.specs.Memory.{load, load_pointer, move_by, store, store_pointer, copy};
+ghost use Rattle.object_meaning.specs.Objects.{object_at, is_live, size_at, begun, add, finish, fill};
+ghost use Rattle.object_meaning.specs.Provenance.{IsValid, IsPointer};
 ghost use Rattle.object_meaning.specs.Sizes.{size_of, true_size};
-ghost use Rattle.object_meaning.specs.Touches.{is_dead};
+ghost use Rattle.object_meaning.specs.Touches.{is_dead, lies_in};
+ghost use Rattle.src_values.specs.Bracket.{BoundsTrueSize};
 ghost use Rattle.src_values.specs.Numbers.{Changes};
-ghost use Rattle.src_values.specs.Spots.{spot_for};
+ghost use Rattle.src_values.specs.Spots.{spot_for, spots_for};
 
+use crate::copies::{Spot, copy_cells, put_bytes};
 use crate::loads::number_at;
 use crate::moves::{moved_tag, moved_within};
 use crate::objects::Object;
+use crate::parts::pointer_at;
 use crate::sizes::{bound_size, fits, rest_of, unknown_size};
 use crate::stores::{store_bytes, store_place};
 use fc_base::{Mode, NoMemory, UndefKind, Width};
-use object_meaning::{Cell, Ptr, PtrValue, Tag};
+use object_meaning::{Cell, Ptr, PtrValue, Tag, sizes_law};
 use std::alloc::Global;
 use std::marker::Model;
-
-/// Where an operation's bytes begin.
-#[derive(Clone, Copy)]
-struct Spot {
-    object: u64,
-    start: u64,
-}
 
 /// Objects by their numbers. All memory of an object is taken where it is added.
 #[derive(Drop)]
@@ -77,8 +73,19 @@ impl Memory {
         self.objects[object as usize] = Object::ended(self.alloc);
     }
 
+    /// Gives an object all its bytes.
+    pub fn fill(&mut self, object: u64, bytes: &[u8])
+        requires there { object < length self.old }
+        requires whole { length bytes.now ≡ size_at self.old object }
+        ensures { self.new ≡ fill self.old object bytes.now }
+    {
+        let filled = &mut self.objects[object as usize];
+        let _size = filled.size();
+        put_bytes(filled, 0, bytes);
+    }
+
     /// Whether an object lives.
-    fn is_live(&self, object: u64) -> bool
+    pub fn is_live(&self, object: u64) -> bool
         ensures { result ≡ is_live self.now object }
     {
         match self.objects.get(object as usize) {
@@ -88,12 +95,22 @@ impl Memory {
     }
 
     /// How many bytes an object has.
-    fn size_at(&self, object: u64) -> u64
+    pub fn object_size(&self, object: u64) -> u64
         ensures { result ≡ size_at self.now object }
     {
         match self.objects.get(object as usize) {
             Some(found) => found.size() as u64,
             None => 0,
+        }
+    }
+
+    /// Whether an object may be written.
+    pub fn is_writable(&self, object: u64) -> bool
+        ensures { result ≡ (object_at self.now object).writable }
+    {
+        match self.objects.get(object as usize) {
+            Some(found) => found.is_writable(),
+            None => false,
         }
     }
 
@@ -126,6 +143,65 @@ impl Memory {
         })
     }
 
+    /// Whether a pointer is to an object that has ended.
+    fn is_dead(&self, p: PtrValue) -> bool
+        ensures { result ≡ is_dead self.now p }
+    {
+        match p {
+            PtrValue::Null { claim: _ } => false,
+            PtrValue::At(place) => !self.is_live(place.object),
+        }
+    }
+
+    /// Whether so many bytes from a place on lie in its object.
+    pub(crate) fn holds(&self, place: Ptr, count: u64) -> bool
+        requires { IsValid (size_at self.now place.object) place }
+        ensures { result ≡ lies_in (size_at self.now place.object) place.offset count }
+    {
+        fits(
+            self.object_size(place.object),
+            place.offset.unsigned_abs(),
+            count,
+        )
+    }
+
+    /// Where cells lie that are copied, one at least, or why that is undefined.
+    fn reach_both(
+        &self,
+        to: PtrValue,
+        from: PtrValue,
+        count: u64,
+    ) -> Result<(Spot, Spot), UndefKind>
+        requires to { IsPointer self.now to }
+        requires from { IsPointer self.now from }
+        ensures { result ≡ spots_for self.now to from count }
+    {
+        if self.is_dead(to) || self.is_dead(from) {
+            return Err(UndefKind::DeadObject);
+        }
+        let PtrValue::At(target) = to else {
+            return Err(UndefKind::NullPointer);
+        };
+        let PtrValue::At(source) = from else {
+            return Err(UndefKind::NullPointer);
+        };
+        if !(self.holds(target, count) && self.holds(source, count)) {
+            return Err(UndefKind::OutOfObject);
+        }
+        if !self.is_writable(target.object) {
+            return Err(UndefKind::ReadOnly);
+        }
+        let to = Spot {
+            object: target.object,
+            start: target.offset.unsigned_abs(),
+        };
+        let from = Spot {
+            object: source.object,
+            start: source.offset.unsigned_abs(),
+        };
+        Ok((to, from))
+    }
+
     /// The bytes behind a pointer, in truth.
     pub fn true_size(&self, mode: Mode, p: PtrValue) -> Option<u64>
         requires { IsPointer self.now p }
@@ -135,7 +211,12 @@ impl Memory {
             PtrValue::Null { claim: _ } => None,
             PtrValue::At(place) => {
                 if self.is_live(place.object) {
-                    Some(rest_of(mode, self.size_at(place.object), place.offset, place.end))
+                    Some(rest_of(
+                        mode,
+                        self.object_size(place.object),
+                        place.offset,
+                        place.end,
+                    ))
                 } else {
                     None
                 }
@@ -143,8 +224,19 @@ impl Memory {
         }
     }
 
-    /// The bytes behind a pointer as the rules tell them.
+    /// The bytes behind a pointer as the rules tell them: at least the true ones in modes 0 and 1, at most those in modes 2 and 3, and
+    /// the same where the rules resolve the pointer.
     pub fn size_of(&self, mode: Mode, p: PtrValue) -> u64
+        requires pointer { IsPointer self.now p }
+        requires live { is_dead self.now p ≡ false }
+        ensures size { result ≡ size_of self.now mode p }
+        ensures bracket { BoundsTrueSize self.now mode p result }
+    {
+        sizes_law();
+        self.tagged_size(mode, p)
+    }
+
+    fn tagged_size(&self, mode: Mode, p: PtrValue) -> u64
         requires pointer { IsPointer self.now p }
         requires live { is_dead self.now p ≡ false }
         ensures { result ≡ size_of self.now mode p }
@@ -155,7 +247,12 @@ impl Memory {
                 None => unknown_size(mode),
             },
             PtrValue::At(place) => match place.tag {
-                Tag::Known => rest_of(mode, self.size_at(place.object), place.offset, place.end),
+                Tag::Known => rest_of(
+                    mode,
+                    self.object_size(place.object),
+                    place.offset,
+                    place.end,
+                ),
                 Tag::Bound(remaining) => bound_size(mode, remaining),
                 Tag::Unknown => unknown_size(mode),
             },
@@ -179,7 +276,7 @@ impl Memory {
                 if !self.is_live(place.object) {
                     return Err(UndefKind::DeadObject);
                 }
-                match moved_within(self.size_at(place.object), place.offset, delta) {
+                match moved_within(self.object_size(place.object), place.offset, delta) {
                     Some(offset) => Ok(PtrValue::At(Ptr {
                         object: place.object,
                         offset,
@@ -204,6 +301,18 @@ impl Memory {
                 spot.start as usize,
                 count as usize,
             ),
+            Err(kind) => Err(kind),
+        }
+    }
+
+    /// The pointer that was stored, of which nothing more is known than its place: eight parts of one, or eight zero bytes for null.
+    pub fn load_ptr(&self, at: PtrValue) -> Result<PtrValue, UndefKind>
+        requires { IsPointer self.now at }
+        ensures value { result ≡ load_pointer self.now at }
+        ensures pointer { IfOk result (IsPointer self.now) }
+    {
+        match self.reach(at, 8, false) {
+            Ok(spot) => pointer_at(&self.objects[spot.object as usize], spot.start as usize),
             Err(kind) => Err(kind),
         }
     }
@@ -234,6 +343,34 @@ impl Memory {
             Ok(spot) => {
                 let object = &mut self.objects[spot.object as usize];
                 store_place(object, spot.start as usize, value);
+                Ok(())
+            }
+            Err(kind) => Err(kind),
+        }
+    }
+
+    /// Copies so many cells as they are, uninitialised ones and parts of pointers too, as if all were read before one is stored.
+    /// What is undefined changes nothing.
+    pub fn copy(&mut self, to: PtrValue, from: PtrValue, count: u64) -> Result<(), UndefKind>
+        requires to { IsPointer self.old to }
+        requires from { IsPointer self.old from }
+        ensures { Changes (copy self.old to from count) self.old self.new result }
+    {
+        if count == 0 {
+            if self.is_dead(to) || self.is_dead(from) {
+                return Err(UndefKind::DeadObject);
+            }
+            return Ok(());
+        }
+        match self.reach_both(to, from, count) {
+            Ok(spots) => {
+                copy_cells(
+                    &mut self.objects,
+                    spots.0,
+                    spots.1,
+                    count as usize,
+                    self.alloc,
+                );
                 Ok(())
             }
             Err(kind) => Err(kind),

@@ -51,10 +51,8 @@ pub fn unknown_size(mode: Mode) -> u64
     ensures { result ≡ unknown_size mode }
 {
     match mode {
-        Mode::M0 => u64::MAX,
-        Mode::M1 => u64::MAX,
-        Mode::M2 => 0,
-        Mode::M3 => 0,
+        Mode::M0 | Mode::M1 => u64::MAX,
+        Mode::M2 | Mode::M3 => 0,
     }
 }
 

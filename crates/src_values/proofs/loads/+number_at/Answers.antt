@@ -17,4 +17,5 @@ returns-clause-number t c =
     ∙ ap number_in (sym (take_next c.args.object.now.cells c.args.at c.args.count some (omega (arith, some, within))))
 
 pub returns-clause-small : goal.returns-clause-small
-returns-clause-small t c = subst (λ n. IfOk c.join.result (λ x. x < values_of n)) (let e : suc (c.args.count - 1) ≡ c.args.count = omega (arith, c.if-count-eq0.false) in e) c.join.ensures.within
+returns-clause-small t c = subst (λ n. IfOk c.join.result (λ x. x < values_of n))
+    (let e : suc (c.args.count - 1) ≡ c.args.count = omega (arith, c.if-count-eq0.false) in e) c.join.ensures.within

@@ -33,4 +33,5 @@ pub returns-in-Part : goal.returns-in-Part
 returns-in-Part c =
     ap (λ ps. marked (set c.self.inside.marks.items c.args.at (mark.Part c.in-Part.k)) ps) c.put_pointer.ensures.items
     ∙ marked-with c.self.inside.marks.items c.self.inside.pointers.items c.args.at (mark.Part c.in-Part.k) c.in-Part.of
-    ∙ ap (λ cs. set cs c.args.at (cell.Part c.in-Part.of c.in-Part.k)) c.self.view_is ∙ ap (set c.args.self.now c.args.at) (sym c.in-Part.is)
+    ∙ ap (λ cs. set cs c.args.at (cell.Part c.in-Part.of c.in-Part.k)) c.self.view_is
+    ∙ ap (set c.args.self.now c.args.at) (sym c.in-Part.is)
