@@ -18,7 +18,7 @@ use Rattle.bm_isa.proofs.Decoded.{same_bytes}
 use Rattle.bm_image.specs.declared.images.Bounds.{Bounds}
 use Rattle.bm_image.specs.declared.images.FnRec.{FnRec}
 use Rattle.bm_image.specs.declared.faults.ImageFault.{ImageFault}
-use Rattle.bm_image.specs.Images.{PlainImage, IsImage, IsFunction, function_at, end_of, bounds_of, is_built, slots_of, call_takes, host_takes, fits}
+use Rattle.bm_image.specs.Images.{PlainImage, IsImage, IsFunction, function_at, end_of, bounds_of, slots_of, call_takes, host_takes, fits}
 use Rattle.bm_image.specs.Spelling.{word, record_bytes, header_bytes, bm_image, SpellsImage}
 use Rattle.bm_image.specs.Parts.{Part, Record, Instruction, Accepts, Judges, all, next, refused, short, wrong, records, instructions, header_parts, image_parts, functions_count, code_count, data_count, entry_in, record_offset, code_offset, data_offset, record_at, records_at, functions_in, record_before, rises, numbers_fit, entry_fits, record_fits, is_between, IsIn, Stands}
 use Rattle.bm_image.proofs.Judged.{judged_over, data_accepted}
@@ -340,8 +340,7 @@ call_small call (Some f) count is test = go (nat_le 64 call) refl is where
       let formed = not f.1 || is_some (row_of f.0).checked in
       let few = nat_le count 64 in
       let all = cond (row_of f.0).variadic (nat_le (slots_of f.0 f.1) count) (count == slots_of f.0 f.1) in
-      let rest = and_parts (is_built f.0) (formed && (few && all)) test in
-      leb-true count 64 (and_parts few all (and_parts formed (few && all) rest.1).1).0
+      leb-true count 64 (and_parts few all (and_parts formed (few && all) test).1).0
 
   go : (t : Bool) → nat_le 64 call ≡ t → option_map (λ g. (g, t)) (slice_get library (cond t (call - 64) call)) ≡ Some f
       → (call < 2 ^ 32) × (count < 2 ^ 32)

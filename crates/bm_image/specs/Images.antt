@@ -47,12 +47,6 @@ bounds_of functions size k = record {
 abbrev pub memset_chk : ℕ
 memset_chk = host_number calls.Memset true
 
--- the machine doesn't have the prints into memory yet
-abbrev pub is_built : LibFn → Bool
-is_built calls.Sprintf = false
-is_built calls.Snprintf = false
-is_built _ = true
-
 -- how many argument slots a call of a function takes: one for each parameter, and one more for the size of its checked form.
 -- What follows a format takes more, up to all 64
 abbrev pub slots_of : LibFn → Bool → ℕ
@@ -60,8 +54,8 @@ slots_of f checked = length (row_of f).parameters + cond checked 1 0
 
 abbrev pub form_takes : LibFn → Bool → ℕ → Bool
 form_takes f checked count =
-    is_built f && ((not checked || is_some (row_of f).checked)
-    && (nat_le count 64 && cond (row_of f).variadic (nat_le (slots_of f checked) count) (count == slots_of f checked)))
+    (not checked || is_some (row_of f).checked)
+    && (nat_le count 64 && cond (row_of f).variadic (nat_le (slots_of f checked) count) (count == slots_of f checked))
 
 -- a library call of that number takes that many argument slots
 abbrev pub call_takes : Option (LibFn × Bool) → ℕ → Bool

@@ -1,26 +1,16 @@
 //! Which instructions may stand in a function.
 
 ghost use Rattle.std.specs.Prelude.{◌≡◌, ◌^◌, nat_lt};
-ghost use Rattle.bm_image.specs.Images.{is_built, form_takes, host_takes, fits, ends_function};
+ghost use Rattle.bm_image.specs.Images.{form_takes, host_takes, fits, ends_function};
 
 use crate::images::Bounds;
 use bm_isa::Instr;
 use c_library::{LibFn, host_call};
 
-/// Whether the machine has the function's call.
-fn is_built(f: LibFn) -> bool
-    ensures { result ≡ is_built f }
-{
-    !matches!(f, LibFn::Sprintf | LibFn::Snprintf)
-}
-
 /// Whether a form of the function takes that many argument slots.
 fn form_takes(f: LibFn, checked: bool, count: u32) -> bool
     ensures { result ≡ form_takes f checked count }
 {
-    if !is_built(f) {
-        return false;
-    }
     if checked && f.checked_form().is_none() {
         return false;
     }

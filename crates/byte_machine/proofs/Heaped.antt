@@ -1,7 +1,7 @@
 -- The calls on the heap.
-use Rattle.std.proofs.Common.{◌≡◌, ℕ, ◌+◌, ◌-◌, ◌*◌, ◌≤◌, ◌<◌, ◌==◌, ◌^◌, Bool, true, false, cond, nat_lt, min, Option, None, Some, IfSome, refl, sym, ◌∙◌, ap, arith}
+use Rattle.std.proofs.Common.{◌≡◌, ℕ, ◌+◌, ◌-◌, ◌≤◌, ◌^◌, Bool, true, false, cond, nat_lt, Option, None, Some, IfSome, refl, sym, ◌∙◌, ap, arith}
 use Rattle.std.proofs.lemmas.Bool.{le-leb, and_from, or_right}
-use Rattle.bm_heap.specs.Heaps.{Heap, IsHeap, heap_size, block_bytes, block_at, place_for, after_take, after_give}
+use Rattle.bm_heap.specs.Heaps.{Heap, IsHeap, block_at, place_for, after_take, after_give}
 use Rattle.library_meaning.specs.Memory.{are_valid, first_valid, memory_size}
 use Rattle.byte_machine.specs.State.{Core, heap_start, giving, block_address, allocating, clearing, replaced, zeroed}
 use Rattle.byte_machine.specs.Machines.{Loaded}

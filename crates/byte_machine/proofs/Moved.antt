@@ -1,5 +1,5 @@
 -- A call that moves bytes in memory, by its row.
-use Rattle.std.proofs.Common.{◌≡◌, ℕ, slice_index, suc, zero, ◌+◌, ◌≤◌, ◌<◌, Bool, true, false, List, [], ◌∷◌, length, take, drop, Option, None, Some, Result, Ok, Err, refl, sym, ◌∙◌, ap, subst, arith}
+use Rattle.std.proofs.Common.{◌≡◌, ℕ, slice_index, suc, zero, ◌+◌, ◌≤◌, Bool, true, false, List, ◌∷◌, length, take, drop, Option, None, Some, Result, Ok, Err, refl, sym, ◌∙◌, ap, subst, arith}
 use Rattle.std.proofs.lemmas.List.{drop_more}
 use Rattle.std.proofs.lemmas.Option.{same_Some}
 use Rattle.run_meaning.specs.Worlds.{World, Input}
@@ -10,13 +10,12 @@ use Rattle.bm_isa.specs.declared.instructions.Instr.TheVariants as instr
 use Rattle.library_meaning.specs.Scan.{Found}
 use Rattle.library_meaning.specs.Rows.{Row, Gives, Check, Nowhere, Answer, run}
 use Rattle.library_meaning.specs.Table.{ended}
-use Rattle.library_meaning.specs.Table as table
 use Rattle.library_meaning.specs.OnBytes.{on_bytes, number_of, quiet, Does}
 use Rattle.library_meaning.specs.declared.stops.HostStop.{HostStop}
-use Rattle.byte_machine.specs.State.{Core, State, arguments, size_of, giving, with_core, stopping, answered, by_row, host_call, perform}
+use Rattle.byte_machine.specs.State.{Core, State, arguments, size_of, giving, with_core, answered, by_row, host_call, perform}
 use Rattle.byte_machine.specs.Opening.{begun}
 use Rattle.byte_machine.specs.Machines.{Loaded}
-use Rattle.byte_machine.specs.Performing.{StandsAtCall, slots_from, operands, memory_row, Did, is_plain, acts, uses_streams}
+use Rattle.byte_machine.specs.Performing.{StandsAtCall, slots_from, operands, memory_row, Did, HasStored, ActsBy, IsGoing, StandsAt, after_call, is_plain, acts, uses_streams}
 use Rattle.byte_machine.proofs.Steps.{call_is}
 use Rattle.byte_machine.proofs.Worlds.{May, carried_to, run_carried, respects_any}
 
@@ -141,7 +140,7 @@ by_memory_row calls.Getchar plain checked count to s = absurd (cc plain)
 by_memory_row calls.Note plain checked count to s = absurd (cc plain)
 
 -- a row that neither shows nor takes
-abbrev Silent : Row → Type 0
+abbrev pub Silent : Row → Type 0
 Silent row = May ⊥ ⊥ row
 
 ended_silent : (f : Found) (next : Row) → Silent next → Silent (ended f next)
@@ -183,11 +182,6 @@ silent_row calls.Write size row is = absurd (cc is)
 silent_row calls.Getchar size row is = absurd (cc is)
 silent_row calls.Note size row is = absurd (cc is)
 
--- what the machine is behind a call with this result, over this memory
-abbrev pub after_call : ℕ → Result ℕ HostStop → List ℕ → State → State
-after_call to (Ok number) memory s = with_core (giving to number (record s.core { memory = memory })) s
-after_call to (Err stop) memory s = stopping stop s
-
 did_answered : (to : ℕ) (args : List ℕ) (ran : Result (Answer (List ℕ)) HostStop) (result : Result ℕ HostStop) (memory : List ℕ) (s : State)
     → Does args ran s.core.memory memory result
     → answered to args (carried_to (λ (w : World). s.world) ran) s ≡ after_call to result memory s
@@ -223,3 +217,49 @@ call_moved l f checked to size at result memory input plain same did =
     call_is l f checked to at s ∙ by_memory_row f plain checked at.count to s
     ∙ did_row (memory_row f (size_of f checked l.core)) (arguments f l.core) to result memory s (silent_row f (size_of f checked l.core))
     (subst (λ n. Did (memory_row f n) (arguments f l.core) l.core.memory memory result) same did)
+
+-- such a call has stored what it did
+pub plain_stored : (l stored : Loaded) (f : LibFn) (checked : Bool) (to size : ℕ) → StandsAtCall l f checked to → (result : Result ℕ HostStop)
+    → IsGoing l → is_plain f ≡ true → size ≡ size_of f checked l.core → stored ≡ record l { core = record l.core { memory = stored.core.memory } }
+    → Did (memory_row f size) (arguments f l.core) l.core.memory stored.core.memory result → HasStored l to result stored
+plain_stored l stored f checked to size at result going plain same state did = record {
+  number = at.number;
+  count = at.count;
+  stands = at.stands;
+  going = going;
+  state = state;
+  does = λ input. call_moved l f checked to size at result stored.core.memory input plain same did;
+  kept = λ stop is. kept_memory (memory_row f size) (arguments f l.core) stop l.core.memory stored.core.memory
+      (subst (λ (r : Result ℕ HostStop). Did (memory_row f size) (arguments f l.core) l.core.memory stored.core.memory r) is did);
+}
+
+-- a call that acts by a row that neither shows nor takes
+pub row_stored : (l stored : Loaded) (to : ℕ) (args : List ℕ) (row : Row) → ActsBy l to args row → Silent row → (result : Result ℕ HostStop)
+    → IsGoing l → stored ≡ record l { core = record l.core { memory = stored.core.memory } }
+    → Does args (run (on_bytes args) row l.core.memory quiet) l.core.memory stored.core.memory result → HasStored l to result stored
+row_stored l stored to args row at silent result going state did = record {
+  number = at.number;
+  count = at.count;
+  stands = at.stands;
+  going = going;
+  state = state;
+  does = λ input. at.does input ∙ did_row (Some row) args to result stored.core.memory (begun l.core input)
+      (λ r is. subst Silent (same_Some row r is) silent) did;
+  kept = λ stop is. kept args (run (on_bytes args) row l.core.memory quiet) stop l.core.memory stored.core.memory
+      (subst (λ (r : Result ℕ HostStop). Does args (run (on_bytes args) row l.core.memory quiet) l.core.memory stored.core.memory r) is did);
+}
+
+-- a machine that has stored bytes stands where it stood, and one that has stopped is as it was
+pub stored_stands : (l stored : Loaded) (to : ℕ) (result : Result ℕ HostStop) (h : HasStored l to result stored)
+    → StandsAt stored (instr.Host to h.number h.count)
+stored_stands l stored to result h = subst (λ (x : Loaded). StandsAt x (instr.Host to h.number h.count)) (sym h.state) h.stands
+
+pub stored_same : (l stored : Loaded) (to : ℕ) (stop : HostStop) → HasStored l to (Err stop) stored → stored ≡ l
+stored_same l stored to stop h = h.state ∙ ap (λ m. record l { core = record l.core { memory = m } }) (h.kept stop refl)
+
+-- what was stored by the slots and the memory that the machine has
+pub stored_by : (P : List ℕ → List ℕ → List ℕ → Type 0) (l l' : Loaded) (m new back : List ℕ) → m ≡ l.core.memory → l ≡ l' → back ≡ new
+    → P l.core.slots m new → P l'.core.slots l'.core.memory back
+stored_by P l l' m new back held same there did =
+    subst (P l'.core.slots l'.core.memory) (sym there)
+    (subst (λ (x : Loaded). P x.core.slots x.core.memory new) same (subst (λ n. P l.core.slots n new) held did))

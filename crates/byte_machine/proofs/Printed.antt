@@ -1,77 +1,43 @@
 -- The library's prints, by their argument slots.
-use Rattle.std.proofs.Common.{◌≡◌, ℕ, zero, suc, ◌+◌, ◌-◌, ◌≤◌, ◌<◌, ◌==◌, ◌||◌, Bool, true, false, cond, List, [], ◌∷◌, ◌++◌, length, take, drop, min, Option, None, Some, nat_le, refl, sym, ◌∙◌, ap, arith, slice_index}
+use Rattle.std.proofs.Common.{◌≡◌, ℕ, zero, suc, ◌+◌, ◌-◌, ◌≤◌, ◌<◌, ◌==◌, ◌||◌, Bool, true, false, not, is_some, cond, List, [], ◌∷◌, ◌++◌, length, take, drop, min, Result, nat_le, refl, sym, ◌∙◌, ap, subst, arith, slice_index}
 use Rattle.std.specs.Prelude.{if◌then◌else◌, slice_range}
 use Rattle.std.proofs.lemmas.List.{drop_more, length-take, length-drop}
 use Rattle.std.proofs.lemmas.Bool.{leb-true}
 use Rattle.run_meaning.specs.Worlds.{Input}
 use Rattle.bm_isa.specs.declared.instructions.Instr.TheVariants as instr
-use Rattle.bm_image.specs.Images.{form_takes, is_built, slots_of}
+use Rattle.bm_image.specs.Images.{form_takes, slots_of}
 use Rattle.c_library.specs.declared.functions.LibFn.{LibFn}
 use Rattle.c_library.specs.declared.functions.LibFn.TheVariants as calls
 use Rattle.c_library.specs.Library.{row_of}
-use Rattle.print_formats.specs.declared.conversions.Directive.{Directive}
-use Rattle.print_formats.specs.declared.conversions.Directive.TheVariants as directives
-use Rattle.print_formats.specs.declared.conversions.Options.{Options}
-use Rattle.print_formats.specs.declared.conversions.Specifier.{Specifier}
-use Rattle.print_formats.specs.declared.conversions.Specifier.TheVariants as specifiers
-use Rattle.print_formats.specs.Formats.{directives_of, conversions_of}
-use Rattle.library_meaning.specs.Scan.{Found}
-use Rattle.library_meaning.specs.Rows.{Row, Gives, Malformed, Ask, Text, Point, Stretch, run}
+use Rattle.library_meaning.specs.Rows.{Row, Gives, Point, Stretch, run}
 use Rattle.library_meaning.specs.Table.{int_of, minus_one, no_limit}
 use Rattle.library_meaning.specs.Prints as prints
+use Rattle.library_meaning.proofs.Printed.{printed_keeps, if_keeps}
 use Rattle.library_meaning.specs.OnBytes.{on_bytes}
-use Rattle.byte_machine.specs.State.{State, slot_value, answered, by_row, host_call, numbered_call, perform, giving}
+use Rattle.library_meaning.specs.declared.stops.HostStop.{HostStop}
+use Rattle.byte_machine.specs.State.{State, slot_value, answered, by_row, print_arguments, print_size, printing_within, host_call, numbered_call, perform, giving}
 use Rattle.byte_machine.specs.Opening.{begun}
 use Rattle.byte_machine.specs.Machines.{Loaded}
-use Rattle.byte_machine.specs.Performing.{StandsAtPrint, ActsBy, ShowsOn}
+use Rattle.byte_machine.specs.Performing.{StandsAtPrint, ActsBy, HasStored, IsGoing, ShowsOn, StoresBounded, StoresWhole, slots_from}
+use Rattle.byte_machine.proofs.Moved.{Silent, row_stored}
 use Rattle.byte_machine.proofs.Steps.{first_test, second_test}
-
--- a print's row has what its continuations have, where acts that read have what those behind them have
-pub record IsKept (P : Row → Type 0) : Type 0 where
-  pub malformed : P Malformed
-  pub ask : (i : ℕ) (next : ℕ → Row) → ((n : ℕ) → P (next n)) → P (Ask i next)
-  pub text : (stops : ℕ → Bool) (from : Stretch) (next : Found → Row) → ((f : Found) → P (next f)) → P (Text stops from next)
-  pub point : (pointers touched : List ℕ) (next : Row) → P next → P (Point pointers touched next)
-
-abbrev Kept : (Row → Type 0) → (List ℕ → List Stretch → Row) → Type 0
-Kept P next = (text : List ℕ) (reads : List Stretch) → P (next text reads)
-
-converted_has : (P : Row → Type 0) → IsKept P → (o : Options) (s : Specifier) (i : ℕ) (next : List ℕ → List Stretch → Row) → Kept P next
-    → P (prints.converted o s i next)
-converted_has P is o (specifiers.Integer numeral of) i next has = is.ask i _ (λ v. has _ _)
-converted_has P is o specifiers.Character i next has = is.ask i _ (λ v. has _ _)
-converted_has P is o (specifiers.Text precision) i next has = is.text _ _ _ (λ s. has _ _)
-
-texts_have : (P : Row → Type 0) → IsKept P → (ds : List Directive) (i : ℕ) (so : List ℕ) (from : List Stretch)
-    (next : List ℕ → List Stretch → Row) → Kept P next → P (prints.texts ds i so from next)
-texts_have P is [] i so from next has = has so from
-texts_have P is (directives.Ordinary b ∷ ds) i so from next has = texts_have P is ds i (so ++ b ∷ []) from next has
-texts_have P is (directives.Converted c ∷ ds) i so from next has =
-    converted_has P is c.options c.specifier i _ (λ text reads. texts_have P is ds (i + 1) (so ++ text) (from ++ reads) next has)
-
-kept_if : (P : Row → Type 0) (t : Bool) (a b : Row) → P a → P b → P (if t then a else b)
-kept_if P true a b first second = first
-kept_if P false a b first second = second
-
-formatted_has : (P : Row → Type 0) → IsKept P → (passed : ℕ) (found : Option (List Directive)) (i : ℕ) (into : List ℕ × List ℕ)
-    (from : List Stretch) (next : List ℕ → List Stretch → Row) → Kept P next → P (prints.formatted passed found i into from next)
-formatted_has P is passed None i into from next has = is.malformed
-formatted_has P is passed (Some ds) i into from next has =
-    kept_if P (nat_le (length (conversions_of ds)) passed) _ _ (is.point _ _ _ (texts_have P is ds i [] from next has)) is.malformed
-
-pub printed_has : (P : Row → Type 0) → IsKept P → (passed i : ℕ) (into : List ℕ × List ℕ) (next : List ℕ → List Stretch → Row) → Kept P next
-    → P (prints.printed passed i into next)
-printed_has P is passed i into next has =
-    is.text _ _ _ (λ f. formatted_has P is passed (directives_of f.before) (i + 1) into _ next has)
 
 -- a print on a descriptor shows its text there
 pub print_shows : (d passed i : ℕ) → ShowsOn d (prints.print_on d passed i)
-print_shows d passed i = printed_has (ShowsOn d) (record {
-  malformed = tt;
-  ask = λ i next has. has;
-  text = λ stops from next has. has;
-  point = λ pointers touched next has. has;
-}) passed i _ _ (λ text reads. (refl, tt))
+print_shows d passed i = printed_keeps (ShowsOn d) tt (λ i next h. h) (λ stops from next h. h) (λ pointers touched next h. h) _
+    (λ text from. (refl, tt)) passed i _
+
+-- one into memory neither shows nor takes
+into_silent : (passed i : ℕ) (also : List ℕ × List ℕ) (next : List ℕ → List Stretch → Row)
+    → ((text : List ℕ) (from : List Stretch) → Silent (next text from)) → Silent (prints.printed passed i also next)
+into_silent passed i also next h =
+    printed_keeps Silent tt (λ i next h. h) (λ stops from next h. h) (λ pointers touched next h. h) next h passed i also
+
+pub sprintf_silent : (passed size : ℕ) → Silent (prints.sprintf passed size)
+sprintf_silent passed size = into_silent passed 1 _ (prints.whole_into passed size) (λ text from. tt)
+
+pub snprintf_silent : (passed size : ℕ) → Silent (prints.snprintf passed size)
+snprintf_silent passed size = λ n. into_silent passed 2 _ (prints.cut_into n) (λ text from. if_keeps Silent (n == 0) _ _ tt tt)
 
 -- the slots from one on, up to the count
 slots_on : (at count : ℕ) (slots : List ℕ) → at < count → count ≤ length slots
@@ -79,6 +45,20 @@ slots_on : (at count : ℕ) (slots : List ℕ) → at < count → count ≤ leng
 slots_on at count slots some few =
     let more : count - at ≡ suc (count - (at + 1)) = omega (arith, some) in
     ap (λ n. take n (drop at slots)) more ∙ ap (take (suc (count - (at + 1)))) (drop_more slots at 0 (omega (arith, some, few)))
+
+-- so many of them one by one
+slots_from_on : (n at count : ℕ) (slots : List ℕ) → at + n ≤ count → count ≤ length slots
+    → slice_range slots at count ≡ slots_from at n slots ++ slice_range slots (at + n) count
+slots_from_on zero at count slots some few = ap (λ k. slice_range slots k count) (omega arith)
+slots_from_on (suc n) at count slots some few =
+    slots_on at count slots (omega (arith, some)) few
+    ∙ ap (λ (xs : List ℕ). slice_index slots at ∷ xs) (slots_from_on n (at + 1) count slots (omega (arith, some)) few)
+    ∙ ap (λ k. slots_from at (suc n) slots ++ slice_range slots k count) (omega arith)
+
+-- the slots that a call is passed, of which the first stand one by one
+given_slots : (n count : ℕ) (slots : List ℕ) → n ≤ count → count ≤ length slots
+    → take count slots ≡ slots_from 0 n slots ++ slice_range slots (0 + n) count
+given_slots n count slots some few = ap (λ k. take k slots) (omega arith) ∙ slots_from_on n 0 count slots (omega (arith, some)) few
 
 slots_long : (at count : ℕ) (slots : List ℕ) → count ≤ length slots → length (slice_range slots at count) ≡ count - at
 slots_long at count slots few =
@@ -88,7 +68,7 @@ slots_long at count slots few =
 few_slots : (f : LibFn) (checked : Bool) (count : ℕ) → (row_of f).variadic ≡ true → form_takes f checked count ≡ true
     → (slots_of f checked ≤ count) × (count ≤ 64)
 few_slots f checked count variadic takes =
-    let formed = second_test _ _ (second_test (is_built f) _ takes) in
+    let formed = second_test (not checked || is_some (row_of f).checked) _ takes in
     let enough : nat_le (slots_of f checked) count ≡ true =
     ap (λ v. cond v (nat_le (slots_of f checked) count) (count == slots_of f checked)) (sym variadic) ∙ second_test (nat_le count 64) _ formed in
     (leb-true (slots_of f checked) count enough, leb-true count 64 (first_test (nat_le count 64) _ formed))
@@ -99,7 +79,13 @@ few_printf checked count takes = let few = few_slots calls.Printf checked count 
 pub few_dprintf : (checked : Bool) (count : ℕ) → form_takes calls.Dprintf checked count ≡ true → (2 ≤ count) × (count ≤ 64)
 few_dprintf checked count takes = let few = few_slots calls.Dprintf checked count refl takes in (omega (arith, few), few.1)
 
--- neither has a checked form
+pub few_sprintf : (checked : Bool) (count : ℕ) → form_takes calls.Sprintf checked count ≡ true → (2 + cond checked 1 0 ≤ count) × (count ≤ 64)
+few_sprintf checked count takes = few_slots calls.Sprintf checked count refl takes
+
+pub few_snprintf : (checked : Bool) (count : ℕ) → form_takes calls.Snprintf checked count ≡ true → (3 + cond checked 1 0 ≤ count) × (count ≤ 64)
+few_snprintf checked count takes = few_slots calls.Snprintf checked count refl takes
+
+-- a print on a descriptor has no checked form
 printf_plain : (checked : Bool) (count : ℕ) → form_takes calls.Printf checked count ≡ true → slots_of calls.Printf checked ≡ 1
 printf_plain true count takes = absurd (cc takes)
 printf_plain false count takes = refl
@@ -188,3 +174,72 @@ dprintf_elsewhere l checked count to at input long none =
     dprintf_done l checked count to at long input
     ∙ ap (λ t. answered to operands (run (on_bytes operands) (if t then prints.print_on d (length args) 1
     else Point (prints.operands 1 (length args + 1)) [] (Gives minus_one)) s.core.memory s.world) s) none
+
+-- a print into memory does what its row says, over its slots one by one
+print_into : (l : Loaded) (f : LibFn) (checked : Bool) (count to k : ℕ) (row : ℕ → ℕ → Row) → StandsAtPrint l f checked count to
+    → ((s : State) → host_call f checked count to s ≡ printing_within f k row checked count to s) → (passed : ℕ) (args : List ℕ)
+    → count - slots_of f checked ≡ passed → print_arguments k checked count l.core ≡ args → ActsBy l to args (row passed (print_size k checked l.core))
+print_into l f checked count to k row at is passed args same given = record {
+  number = at.number;
+  count = count;
+  stands = at.stands;
+  does = λ input. let s = begun l.core input in print_is l f checked count to at s ∙ is s
+      ∙ ap (λ p. by_row to (print_arguments k checked count l.core) (row p (print_size k checked l.core)) s) same
+      ∙ ap (λ (xs : List ℕ). by_row to xs (row passed (print_size k checked l.core)) s) given;
+}
+
+pub sprintf_acts : (l : Loaded) (checked : Bool) (count to : ℕ) → StandsAtPrint l calls.Sprintf checked count to → length l.core.slots ≡ 64
+    → let format = 1 + cond checked 1 0 in let args = slice_range l.core.slots (format + 1) count in
+    ActsBy l to (slot_value l.core 0 ∷ slot_value l.core format ∷ args) (prints.sprintf (length args) (print_size 1 checked l.core))
+sprintf_acts l true count to at long =
+    let slots = l.core.slots in
+    let few = few_sprintf true count at.takes in
+    let within : count ≤ length slots = omega (arith, few, long) in
+    print_into l calls.Sprintf true count to 1 prints.sprintf at (λ s. refl) (length (slice_range slots 3 count))
+    (slot_value l.core 0 ∷ slot_value l.core 2 ∷ slice_range slots 3 count) (sym (slots_long 3 count slots within))
+    (ap (λ (xs : List ℕ). take 1 xs ++ drop 2 xs) (given_slots 3 count slots (omega (arith, few)) within))
+sprintf_acts l false count to at long =
+    let slots = l.core.slots in
+    let few = few_sprintf false count at.takes in
+    let within : count ≤ length slots = omega (arith, few, long) in
+    print_into l calls.Sprintf false count to 1 prints.sprintf at (λ s. refl) (length (slice_range slots 2 count))
+    (slot_value l.core 0 ∷ slot_value l.core 1 ∷ slice_range slots 2 count) (sym (slots_long 2 count slots within))
+    (given_slots 2 count slots (omega (arith, few)) within)
+
+pub snprintf_acts : (l : Loaded) (checked : Bool) (count to : ℕ) → StandsAtPrint l calls.Snprintf checked count to → length l.core.slots ≡ 64
+    → let format = 2 + cond checked 1 0 in let args = slice_range l.core.slots (format + 1) count in
+    ActsBy l to (slot_value l.core 0 ∷ slot_value l.core 1 ∷ slot_value l.core format ∷ args)
+    (prints.snprintf (length args) (print_size 2 checked l.core))
+snprintf_acts l true count to at long =
+    let slots = l.core.slots in
+    let few = few_snprintf true count at.takes in
+    let within : count ≤ length slots = omega (arith, few, long) in
+    print_into l calls.Snprintf true count to 2 prints.snprintf at (λ s. refl) (length (slice_range slots 4 count))
+    (slot_value l.core 0 ∷ slot_value l.core 1 ∷ slot_value l.core 3 ∷ slice_range slots 4 count) (sym (slots_long 4 count slots within))
+    (ap (λ (xs : List ℕ). take 2 xs ++ drop 3 xs) (given_slots 4 count slots (omega (arith, few)) within))
+snprintf_acts l false count to at long =
+    let slots = l.core.slots in
+    let few = few_snprintf false count at.takes in
+    let within : count ≤ length slots = omega (arith, few, long) in
+    print_into l calls.Snprintf false count to 2 prints.snprintf at (λ s. refl) (length (slice_range slots 3 count))
+    (slot_value l.core 0 ∷ slot_value l.core 1 ∷ slot_value l.core 2 ∷ slice_range slots 3 count) (sym (slots_long 3 count slots within))
+    (given_slots 3 count slots (omega (arith, few)) within)
+
+-- what was stored is what its row says
+pub sprintf_stored : (l stored : Loaded) (checked : Bool) (count to size format : ℕ) → StandsAtPrint l calls.Sprintf checked count to
+    → length l.core.slots ≡ 64 → (result : Result ℕ HostStop) → IsGoing l → size ≡ print_size 1 checked l.core → format ≡ 1 + cond checked 1 0
+    → stored ≡ record l { core = record l.core { memory = stored.core.memory } }
+    → StoresWhole size format count result l.core.slots l.core.memory stored.core.memory → HasStored l to result stored
+sprintf_stored l stored checked count to size format at long result going same place state did =
+    let here = subst (λ f. StoresWhole (print_size 1 checked l.core) f count result l.core.slots l.core.memory stored.core.memory) place
+    (subst (λ n. StoresWhole n format count result l.core.slots l.core.memory stored.core.memory) same did) in
+    row_stored l stored to _ _ (sprintf_acts l checked count to at long) (sprintf_silent _ (print_size 1 checked l.core)) result going state here
+
+pub snprintf_stored : (l stored : Loaded) (checked : Bool) (count to size format : ℕ) → StandsAtPrint l calls.Snprintf checked count to
+    → length l.core.slots ≡ 64 → (result : Result ℕ HostStop) → IsGoing l → size ≡ print_size 2 checked l.core → format ≡ 2 + cond checked 1 0
+    → stored ≡ record l { core = record l.core { memory = stored.core.memory } }
+    → StoresBounded size format count result l.core.slots l.core.memory stored.core.memory → HasStored l to result stored
+snprintf_stored l stored checked count to size format at long result going same place state did =
+    let here = subst (λ f. StoresBounded (print_size 2 checked l.core) f count result l.core.slots l.core.memory stored.core.memory) place
+    (subst (λ n. StoresBounded n format count result l.core.slots l.core.memory stored.core.memory) same did) in
+    row_stored l stored to _ _ (snprintf_acts l checked count to at long) (snprintf_silent _ (print_size 2 checked l.core)) result going state here

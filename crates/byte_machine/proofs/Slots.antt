@@ -1,5 +1,5 @@
 -- The library's calls by their argument slots.
-use Rattle.std.proofs.Common.{◌≡◌, ℕ, ◌%◌, ◌^◌, ◌+◌, Bool, true, false, cond, slice_index, ◌||◌, List, [], ◌∷◌, ◌++◌, length, Result, Ok, Err, ◌≤◌, refl, sym, ◌∙◌, ap, arith}
+use Rattle.std.proofs.Common.{◌≡◌, ℕ, ◌+◌, Bool, true, false, cond, slice_index, ◌||◌, List, [], ◌∷◌, ◌++◌, length, Ok, ◌≤◌, refl, sym, ◌∙◌, ap, arith}
 use Rattle.std.specs.Prelude.{eqb, ltb, if◌then◌else◌}
 use Rattle.std.proofs.lemmas.Bool.{eqb-true, le-ltb}
 use Rattle.run_meaning.specs.Worlds.{Input}
@@ -12,7 +12,6 @@ use Rattle.library_meaning.specs.Table as table
 use Rattle.library_meaning.specs.Table.{int_of, minus_one, no_limit}
 use Rattle.library_meaning.specs.OnBytes.{on_bytes, valid_then}
 use Rattle.library_meaning.specs.Memory.{are_valid, bytes_at}
-use Rattle.library_meaning.specs.declared.stops.HostStop.TheVariants as host
 use Rattle.byte_machine.specs.State.{State, slot_value, size_of, arguments, answered, by_row, host_call, perform, giving, overflowing, note}
 use Rattle.byte_machine.specs.Opening.{begun}
 use Rattle.byte_machine.specs.View.{loaded_of}

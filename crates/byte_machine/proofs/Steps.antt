@@ -1,7 +1,7 @@
 -- What a runnable machine knows of the instruction it stands at, and what one instruction does.
-use Rattle.std.proofs.Common.{◌≡◌, ℕ, zero, suc, ◌+◌, ◌<◌, ◌≤◌, ◌==◌, ◌^◌, List, [], ◌∷◌, ◌++◌, length, Bool, true, false, ◌&&◌, nat_lt, nat_le, cond, is_some, None, Some, IsTrue, vec_len, refl, sym, ◌∙◌, ap, arith, slice_get, slice_index_or, replicate, ◌%◌, subst, slice_set, inl, inr}
+use Rattle.std.proofs.Common.{◌≡◌, ℕ, zero, suc, ◌+◌, ◌<◌, ◌≤◌, ◌==◌, ◌^◌, List, [], ◌∷◌, ◌++◌, length, Bool, true, false, ◌&&◌, nat_lt, cond, is_some, None, Some, IsTrue, refl, sym, ◌∙◌, ap, arith, slice_get, slice_index_or, subst, inl, inr}
 use Rattle.std.proofs.lemmas.Option.{get_or_from_slice_get, same_Some}
-use Rattle.std.proofs.lemmas.Bool.{leb-true, ltb-true, eqb-true, eq-eqb, lt-ltb, le-ltb}
+use Rattle.std.proofs.lemmas.Bool.{ltb-true, eqb-true, eq-eqb}
 use Rattle.std.proofs.lemmas.Bool.{cases_lt}
 use Rattle.std.proofs.lemmas.List.{get_or_default}
 use Rattle.fc_base.specs.Outside.{Appends, AppendsFront, Rose}
@@ -23,7 +23,7 @@ use Rattle.byte_machine.specs.declared.machine.Machine.TheInside.{Inside}
 use Rattle.byte_machine.specs.declared.machine.Stop.TheVariants as stops
 use Rattle.byte_machine.specs.declared.machine.Step.{Step}
 use Rattle.byte_machine.specs.declared.machine.Step.TheVariants as steps
-use Rattle.byte_machine.specs.State.{Core, State, Program, Window, register, host_call, numbered_call, perform, performed, next, slot_value, ending, giving, with_core, overflowing}
+use Rattle.byte_machine.specs.State.{Core, State, Program, Window, host_call, numbered_call, perform, performed, next, ending}
 use Rattle.library_meaning.specs.declared.stops.HostStop.TheVariants as host
 use Rattle.byte_machine.specs.Opening.{begun}
 use Rattle.byte_machine.specs.Machines.{Loaded, moved_next}

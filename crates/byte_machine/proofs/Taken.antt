@@ -1,27 +1,27 @@
 -- Calls that take from standard input, by their rows.
-use Rattle.std.proofs.Common.{◌≡◌, ℕ, zero, suc, ◌+◌, ◌≤◌, ◌^◌, ◌%◌, ◌==◌, Bool, true, false, cond, List, [], ◌∷◌, ◌++◌, length, take, drop, Option, None, Some, Result, Ok, Err, nat_le, ◌&&◌, refl, sym, ◌∙◌, ap, subst, arith}
-use Rattle.std.specs.Prelude.{ltb, eqb, if◌then◌else◌, slice_get}
+use Rattle.std.proofs.Common.{◌≡◌, ℕ, zero, suc, ◌+◌, ◌≤◌, Bool, true, false, cond, List, [], ◌∷◌, ◌++◌, length, take, drop, None, Some, Result, Ok, Err, nat_le, ◌&&◌, refl, sym, ◌∙◌, ap, subst, arith}
+use Rattle.std.specs.Prelude.{ltb, eqb, if◌then◌else◌}
 use Rattle.std.proofs.Math.Nat.{add-zero}
 use Rattle.std.proofs.lemmas.Bool.{le-leb, ltb-false}
-use Rattle.fc_base.specs.Outside.{Takes, Appends, Rose}
-use Rattle.run_meaning.specs.Runs.{Shown, on_descriptor, bytes_on}
+use Rattle.fc_base.specs.Outside.{Takes, Appends}
+use Rattle.run_meaning.specs.Runs.{Shown, on_descriptor}
 use Rattle.bm_isa.specs.declared.instructions.Instr.TheVariants as instr
 use Rattle.run_meaning.specs.Worlds.{World, Input, AreBytes}
-use Rattle.run_meaning.specs.Objects.{Streams, StreamState, Offers, NoneFell}
+use Rattle.run_meaning.specs.Objects.{Streams, StreamState, NoneFell}
 use Rattle.run_meaning.specs.declared.streams.Stream.TheVariants.{Input as OfInput, Out as OfOut, Err as OfErr}
-use Rattle.run_meaning.proofs.Moved.{bytes_on-same, bytes_on-other, appends-none}
+use Rattle.run_meaning.proofs.Moved.{bytes_on-same, bytes_on-other}
 use Rattle.library_meaning.specs.Scan.{and_then}
 use Rattle.library_meaning.specs.Rows.{Row, Gives, Point, Answer, answer, Count, run, taking}
 use Rattle.library_meaning.specs.Table.{int_of, minus_one, no_limit, read, read_from_input, getchar}
-use Rattle.library_meaning.specs.OnBytes.{on_bytes, number_of, valid_then, quiet}
+use Rattle.library_meaning.specs.OnBytes.{on_bytes, valid_then, quiet}
 use Rattle.library_meaning.specs.OnStreams.{HasTaken, DidTake, FailedToTake, TakesFrom, TakesAs, offering, having_taken}
 use Rattle.library_meaning.specs.Memory.{are_valid, put}
 use Rattle.library_meaning.specs.declared.stops.HostStop.{HostStop}
 use Rattle.library_meaning.specs.declared.stops.HostStop.TheVariants as host
-use Rattle.byte_machine.specs.State.{Core, State, Program, giving, with_core, answered, by_row, overflowing, next}
+use Rattle.byte_machine.specs.State.{State, giving, with_core, answered, by_row, overflowing, next}
 use Rattle.byte_machine.specs.Opening.{begun}
-use Rattle.byte_machine.specs.Machines.{Loaded, Reaches, asked, read_asks, moved_next}
-use Rattle.byte_machine.specs.Performing.{IsGoing, StandsAt, HaveMoved, Carried, FailsIn, Performs, MovesAlone, ActsBy, behind, having_moved}
+use Rattle.byte_machine.specs.Machines.{Loaded, asked, read_asks}
+use Rattle.byte_machine.specs.Performing.{IsGoing, HaveMoved, Carried, FailsIn, Performs, MovesAlone, ActsBy, behind, having_moved}
 use Rattle.byte_machine.specs.declared.machine.Stop.TheVariants as stops
 use Rattle.byte_machine.specs.declared.machine.Step.{Step}
 use Rattle.byte_machine.specs.declared.machine.Step.TheVariants as steps

@@ -1,11 +1,10 @@
 -- Calls that write on a sink, by their rows.
-use Rattle.std.proofs.Common.{◌≡◌, ◌≢◌, ℕ, ◌+◌, ◌-◌, ◌≤◌, Bool, true, false, List, [], ◌∷◌, ◌++◌, Option, None, Some, Result, Ok, Err, refl, sym, ◌∙◌, ap, subst, append-nil, append_assoc, arith}
+use Rattle.std.proofs.Common.{◌≡◌, ◌≢◌, ℕ, ◌-◌, ◌≤◌, Bool, true, false, List, [], ◌∷◌, ◌++◌, None, Result, Ok, Err, refl, sym, ◌∙◌, ap, subst, append-nil, append_assoc, arith}
 use Rattle.std.specs.Prelude.{eqb, if◌then◌else◌}
 use Rattle.std.specs.Bool.{⊤}
-use Rattle.fc_base.specs.Outside.{Appends, AppendsFront, Rose, Takes, IsAtEnd}
+use Rattle.fc_base.specs.Outside.{Appends, AppendsFront, Takes, IsAtEnd}
 use Rattle.fc_base.specs.declared.levels.End.{End}
-use Rattle.fc_base.specs.declared.levels.End.TheVariants as ends
-use Rattle.run_meaning.specs.Runs.{Shown, on_descriptor, bytes_on}
+use Rattle.run_meaning.specs.Runs.{on_descriptor, bytes_on}
 use Rattle.run_meaning.specs.Worlds.{World, Input, AreBytes}
 use Rattle.run_meaning.specs.Objects.{Streams, StreamState, streams, state_of, descriptor_of, NoneFell}
 use Rattle.run_meaning.specs.declared.streams.Stream.{Stream}
@@ -23,7 +22,7 @@ use Rattle.fd_chk.proofs.Written.{moved_is}
 use Rattle.byte_machine.specs.State.{State, Program, giving, ending, with_core, stopping, answered, by_row, next}
 use Rattle.byte_machine.specs.Opening.{begun}
 use Rattle.byte_machine.specs.Machines.{Loaded, Reaches, fault_of, moved_next}
-use Rattle.byte_machine.specs.Performing.{IsGoing, StandsAt, HaveMoved, Carried, FailsIn, Performs, IsSink, MovesAlone, ShowsOn, ActsBy, HasWritten, behind, having_moved, stopped_with}
+use Rattle.byte_machine.specs.Performing.{IsGoing, HaveMoved, Carried, FailsIn, Performs, IsSink, MovesAlone, ShowsOn, ActsBy, HasWritten, behind, having_moved, stopped_with}
 use Rattle.byte_machine.specs.declared.machine.Stop.TheVariants as stops
 use Rattle.byte_machine.specs.declared.machine.Step.{Step}
 use Rattle.byte_machine.specs.declared.machine.Step.TheVariants as steps

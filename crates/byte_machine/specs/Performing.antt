@@ -1,5 +1,5 @@
 -- What one instruction does to a machine and to the streams. It serves the proofs alone.
-use Rattle.std.specs.Prelude.{◌≡◌, Bool, ℕ, zero, suc, ◌+◌, Option, Result, slice_index, List, [], ◌∷◌, ◌++◌, None, Some, slice_get, false, true, length, nat_le, nat_lt, ◌&&◌, ◌<◌, ◌≤◌}
+use Rattle.std.specs.Prelude.{◌≡◌, Bool, ℕ, zero, suc, ◌+◌, Option, Result, Ok, Err, slice_index, slice_range, List, [], ◌∷◌, ◌++◌, None, Some, slice_get, false, true, length, nat_le, nat_lt, ◌&&◌, ◌<◌, ◌≤◌}
 use Rattle.fc_base.specs.Outside.{IsAtEnd, IsFront}
 use Rattle.run_meaning.specs.Runs.{Shown, bytes_on}
 use Rattle.run_meaning.specs.Worlds.{AreBytes, Input}
@@ -14,11 +14,12 @@ use Rattle.c_library.specs.Library.{row_of, call_of}
 use Rattle.library_meaning.specs.Scan.{Found}
 use Rattle.library_meaning.specs.Rows.{Row, Gives, Malformed, Check, Ask, Text, Bytes, Both, Point, Touch, Apart, Store, Show, Take, run}
 use Rattle.library_meaning.specs.Table as table
+use Rattle.library_meaning.specs.Prints as prints
 use Rattle.library_meaning.specs.OnStreams.{Writes}
 use Rattle.library_meaning.specs.OnBytes.{on_bytes, quiet, Does}
 use Rattle.library_meaning.specs.declared.stops.HostStop.{HostStop}
 use Rattle.bm_image.specs.Images.{bounds_of, function_at, ends_function, form_takes}
-use Rattle.byte_machine.specs.State.{Core, State, Program, Window, next, perform, by_row, stopping, is_full, resumed}
+use Rattle.byte_machine.specs.State.{Core, State, Program, Window, next, perform, by_row, giving, with_core, stopping, is_full, resumed}
 use Rattle.byte_machine.specs.Opening.{begun}
 use Rattle.byte_machine.specs.Machines.{Loaded, Reaches, end_of_stop, moved_next}
 use Rattle.byte_machine.specs.declared.machine.Stop.{Stop}
@@ -152,6 +153,36 @@ pub record Halts (l : Loaded) (stop : HostStop) : Type 0 where
   pub i : Instr
   pub stands : StandsAt l i
   pub does : (input : Input) → perform l.program i (begun l.core input) ≡ stopping stop (begun l.core input)
+
+-- what the format in a slot prints of the slots behind it, up to the count, is stored at the address in the first slot: all of it, or as
+-- much as the second slot says
+abbrev pub StoresWhole : ℕ → ℕ → ℕ → Result ℕ HostStop → List ℕ → List ℕ → List ℕ → Type 0
+StoresWhole size format count result slots old new =
+    let args = slice_range slots (format + 1) count in
+    let operands = slice_index slots 0 ∷ slice_index slots format ∷ args in
+    Does operands (run (on_bytes operands) (prints.sprintf (length args) size) old quiet) old new result
+
+abbrev pub StoresBounded : ℕ → ℕ → ℕ → Result ℕ HostStop → List ℕ → List ℕ → List ℕ → Type 0
+StoresBounded size format count result slots old new =
+    let args = slice_range slots (format + 1) count in
+    let operands = slice_index slots 0 ∷ slice_index slots 1 ∷ slice_index slots format ∷ args in
+    Does operands (run (on_bytes operands) (prints.snprintf (length args) size) old quiet) old new result
+
+-- what the machine is behind a call with this result, over this memory
+abbrev pub after_call : ℕ → Result ℕ HostStop → List ℕ → State → State
+after_call to (Ok number) memory s = with_core (giving to number (record s.core { memory = memory })) s
+after_call to (Err stop) memory s = stopping stop s
+
+-- the call that a machine stood at has stored bytes, or has stopped and stored nothing
+pub record HasStored (l : Loaded) (to : ℕ) (result : Result ℕ HostStop) (stored : Loaded) : Type 0 where
+  pub number : ℕ
+  pub count : ℕ
+  pub stands : StandsAt l (instr.Host to number count)
+  pub going : IsGoing l
+  pub state : stored ≡ record l { core = record l.core { memory = stored.core.memory } }
+  pub does : (input : Input) → perform l.program (instr.Host to number count) (begun l.core input)
+      ≡ after_call to result stored.core.memory (begun l.core input)
+  pub kept : (stop : HostStop) → result ≡ Err stop → stored.core.memory ≡ l.core.memory
 
 -- a sink
 abbrev pub IsSink : Stream → Type 0

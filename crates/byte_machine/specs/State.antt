@@ -1,6 +1,5 @@
 -- The machine's state and the table of its instructions. It knows addresses and numbers alone. This project's own.
-use Rattle.std.specs.Prelude.{ℕ, zero, suc, ◌+◌, ◌%◌, ◌^◌, List, [], ◌∷◌, ◌++◌, length, Bool, ◌&&◌, ◌||◌, not, ◌==◌, nat_lt, nat_le, cond, Option, None, Some, slice_get, slice_index, slice_range, slice_set, replicate, is_some, true, false, ◌-◌, take, drop, sum_by, ◌*◌, min, Result, Ok, Err}
-use Rattle.std.specs.List.{splice}
+use Rattle.std.specs.Prelude.{ℕ, zero, suc, ◌+◌, ◌%◌, ◌^◌, List, [], ◌∷◌, ◌++◌, length, Bool, ◌&&◌, ◌||◌, not, ◌==◌, nat_lt, nat_le, cond, Option, None, Some, slice_get, slice_index, slice_range, slice_set, replicate, is_some, ◌-◌, take, drop, sum_by, ◌*◌, min, Result, Ok, Err}
 use Rattle.std.specs.Int.{from_le_bytes, to_le_bytes, w16, w32, w64}
 use Rattle.run_meaning.specs.Runs.{Shown, Standing, Ended, Going, on_descriptor}
 use Rattle.run_meaning.specs.Worlds.{World}
@@ -28,7 +27,7 @@ use Rattle.library_meaning.specs.Prints as prints
 use Rattle.library_meaning.specs.OnBytes.{on_bytes, number_of}
 use Rattle.library_meaning.specs.declared.stops.HostStop.{HostStop}
 use Rattle.library_meaning.specs.declared.stops.HostStop.TheVariants as host
-use Rattle.library_meaning.specs.Memory.{memory_size, first_valid, are_valid, put, bytes_at}
+use Rattle.library_meaning.specs.Memory.{are_valid, put, bytes_at}
 
 -- where the data section, the stack and the heap begin, and how much stack there is
 abbrev pub data_start : ℕ

@@ -1,6 +1,6 @@
 //! The machine while it runs.
 
-ghost use Rattle.std.specs.Prelude.{◌≡◌, ◌≢◌, ℕ, ◌+◌, ◌≤◌, ◌<◌, Option, None, Some, IfSome, IfOk, true, false, length, replicate};
+ghost use Rattle.std.specs.Prelude.{◌≡◌, ◌≢◌, ℕ, ◌+◌, ◌≤◌, ◌<◌, None, Some, IfSome, IfOk, true, false, length, replicate};
 ghost use Rattle.std.specs.Option.{option_map};
 ghost use Rattle.fc_base.specs.declared.levels.End.{End};
 ghost use Rattle.run_meaning.specs.Objects.{Streams, StreamState, stream, streams, Failed, NoneFell};
@@ -13,8 +13,8 @@ ghost use Rattle.byte_machine.specs.Calls.{waits};
 ghost use Rattle.library_meaning.specs.Memory.{are_valid, put, bytes_at};
 ghost use Rattle.byte_machine.specs.Opening.{program_of, first_core, first_end};
 ghost use Rattle.run_meaning.specs.Worlds.{ArgumentsFit, World};
-ghost use Rattle.byte_machine.specs.Machines.{fault_of, Advances, FailsAfter};
-ghost use Rattle.byte_machine.specs.Performing.{IsGoing, StandsAt, StandsAtCall, Names, GoesOn, Lands, stopped_with, Performs, Enters, resuming, Did, Halts, memory_row, is_plain, acts};
+ghost use Rattle.byte_machine.specs.Machines.{Loaded, fault_of, Advances, FailsAfter};
+ghost use Rattle.byte_machine.specs.Performing.{IsGoing, StandsAt, StandsAtCall, Names, GoesOn, Lands, stopped_with, Performs, Enters, resuming, Did, Halts, HasStored, memory_row, is_plain, acts};
 ghost use Rattle.byte_machine.specs.Straight.{leaves_call};
 
 mod heap_calls;
@@ -443,7 +443,19 @@ impl Machine {
             Performs self.old self.new result before after }
     {
         let size = self.size_of(f, checked);
-        match self.on_memory(f, size) {
+        let done = self.on_memory(f, size);
+        self.stored(to, done, err)
+    }
+
+    /// Goes on behind a call that has stored bytes, or stops where it stopped.
+    fn stored<E: Sink>(&mut self, to: u32, done: Result<u64, HostStop>, err: &mut E) -> Step
+        requires { (before : Loaded) × HasStored before to done self.old }
+        ensures program { self.new.program ≡ self.old.program }
+        ensures performed { (before : Loaded) (input out : StreamState) → HasStored before to done self.old
+            → Performs before self.new result (streams input out (stream (E.written err.old) (E.count err.old)))
+            (streams input out (stream (E.written err.new) (E.count err.new))) }
+    {
+        match done {
             Ok(number) => self.give(to, number),
             Err(stop) => self.halt(stop, err),
         }

@@ -31,18 +31,19 @@ fn pass(code: &mut Vec<Instr>, arg: Arg, slot: u32) -> Result<(), NoMemory> {
 /// How a program ends that makes at most six calls of two arguments and returns what the last one gave, divided by the number.
 fn ends(alloc: Global, calls: &[(u32, u32, Arg, Arg)], by: u64) -> Result<Option<End>, NoMemory> {
     let mut code = Vec::new(alloc);
-    let mut to = 0;
+    let (mut to, mut last) = (0, 0);
     for &(call, count, a, b) in calls {
         pass(&mut code, a, 0)?;
         pass(&mut code, b, 1)?;
         code.push(Instr::Host { to, call, count })?;
-        to = to.wrapping_add(1) % 6;
+        last = to;
+        to = to % 6 + 1;
     }
     code.push(Instr::Const { to: 7, number: by })?;
     code.push(Instr::Binary {
         op: BinaryOp::DivUnsigned,
         to: 7,
-        left: to.wrapping_add(5) % 6,
+        left: last,
         right: 7,
     })?;
     code.push(Instr::Return { from: 7 })?;

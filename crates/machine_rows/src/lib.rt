@@ -15,6 +15,8 @@ mod openings;
 #[cfg(test)]
 mod operands;
 #[cfg(test)]
+mod prints;
+#[cfg(test)]
 mod programs;
 #[cfg(test)]
 mod stacks;

@@ -7,7 +7,7 @@ use fc_base::{End, MemSink, MemSource, NoMemory, Words};
 use std::alloc::Global;
 
 /// The one function of most programs: eight registers and a frame of 32 bytes.
-const ALONE: FnRec = FnRec {
+pub const ALONE: FnRec = FnRec {
     first: 0,
     params: 0,
     regs: 8,
@@ -16,7 +16,7 @@ const ALONE: FnRec = FnRec {
 };
 
 /// The bytes of an image that begins with its first function.
-fn image_bytes(
+pub fn image_bytes(
     alloc: Global,
     functions: &[FnRec],
     code: &[Instr],
@@ -24,9 +24,9 @@ fn image_bytes(
 ) -> Result<Vec<u8>, NoMemory> {
     let mut bytes = Vec::new(alloc);
     bytes.extend_from_slice(b"FC3IMAGE")?;
-    bytes.extend_from_slice(&1u32.to_le_bytes())?;
-    for count in [functions.len(), code.len(), data.len(), 0, 0] {
-        bytes.extend_from_slice(&((count % 0x1_0000) as u32).to_le_bytes())?;
+    let counts = [functions.len(), code.len(), data.len()];
+    for word in [1, counts[0], counts[1], counts[2], 0, 0] {
+        bytes.extend_from_slice(&((word % 0x1_0000) as u32).to_le_bytes())?;
     }
     for f in functions {
         for word in [f.first, f.params, f.regs, f.weight, f.frame] {
@@ -40,11 +40,6 @@ fn image_bytes(
     Ok(bytes)
 }
 
-/// The image of one function, and a data section.
-pub fn image_of(alloc: Global, code: &[Instr], data: &[u8]) -> Result<Vec<u8>, NoMemory> {
-    image_bytes(alloc, &[ALONE], code, data)
-}
-
 /// A program that makes a library call with these arguments and returns its result.
 pub fn calling(alloc: Global, call: u32, args: &[u64]) -> Result<Vec<Instr>, NoMemory> {
     let mut code = Vec::new(alloc);
@@ -52,7 +47,7 @@ pub fn calling(alloc: Global, call: u32, args: &[u64]) -> Result<Vec<Instr>, NoM
     for &number in args {
         code.push(Instr::Const { to: 0, number })?;
         code.push(Instr::Argument { from: 0, slot })?;
-        slot = slot.wrapping_add(1);
+        slot = slot % 64 + 1;
     }
     code.push(Instr::Host {
         to: 0,

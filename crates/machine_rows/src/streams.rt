@@ -1,8 +1,9 @@
 //! What library calls take and write on the streams.
 
-use crate::programs::{calling, image_of};
+use crate::programs::{ALONE, calling, image_bytes};
 use crate::values::assert_same;
 use bm_image::{ReadFault, read_image};
+use bm_isa::Instr;
 use byte_machine::{Machine, Stop};
 use fc_base::{End, MemSink, MemSource, NoMemory, Source, Words};
 use std::alloc::Global;
@@ -18,7 +19,7 @@ fn left_on(input: &mut MemSource) -> usize {
 }
 
 /// How the run ended, or which stream failed, by its descriptor.
-fn told(stop: Stop) -> (Option<End>, u32) {
+pub fn told(stop: Stop) -> (Option<End>, u32) {
     match stop {
         Stop::Ended(end) => (Some(end), 3),
         Stop::OutOfSteps => (None, 4),
@@ -28,25 +29,24 @@ fn told(stop: Stop) -> (Option<End>, u32) {
     }
 }
 
-/// A call with its arguments and the data section, and what is written on standard output and error.
+/// The data section of a program, and what it writes on standard output and error.
 #[derive(Clone, Copy)]
-struct Row {
-    data: &'static [u8],
-    call: u32,
-    args: &'static [u64],
-    out: &'static [u8],
-    err: &'static [u8],
+pub struct Row {
+    pub data: &'static [u8],
+    pub out: &'static [u8],
+    pub err: &'static [u8],
 }
 
-/// How a program stops that makes the call, and how many bytes it leaves of standard input. None where it writes anything else.
-fn stops(
+/// How a program stops, and how many bytes it leaves of standard input. None where it writes anything else.
+pub fn stops(
     alloc: Global,
+    code: &[Instr],
     row: &Row,
     mut input: MemSource,
     out_room: usize,
     err_room: usize,
 ) -> Result<Option<(Stop, usize)>, NoMemory> {
-    let bytes = image_of(alloc, &calling(alloc, row.call, row.args)?, row.data)?;
+    let bytes = image_bytes(alloc, &[ALONE], code, row.data)?;
     match read_image(alloc, &bytes) {
         Ok(image) => {
             let mut machine = Machine::open(alloc, &image, &Words::new(alloc))?;
@@ -64,7 +64,7 @@ fn stops(
     }
 }
 
-const OVERFLOW: &[u8] = b"*** buffer overflow detected ***: terminated\n";
+pub const OVERFLOW: &[u8] = b"*** buffer overflow detected ***: terminated\n";
 
 /// A call, how it ends, what is written on standard output and error, and how many bytes of `abc` are left.
 const ROWS: &[(u32, &[u64], End, &[u8], &[u8], usize)] = &[
@@ -108,13 +108,12 @@ fn calls_move(rt: HostRuntime) -> Result<(), Fail> {
         let (call, args, end, out, err, left) = ROWS[k];
         let row = Row {
             data: b"",
-            call,
-            args,
             out,
             err,
         };
+        let code = calling(rt.alloc(), call, args)?;
         let input = MemSource::new(rt.alloc(), b"abc")?;
-        let found = stops(rt.alloc(), &row, input, 64, 64)?;
+        let found = stops(rt.alloc(), &code, &row, input, 64, 64)?;
         let found = found.map(|(stop, left)| (told(stop), left));
         assert_same(&rt, k, found, Some(((Some(end), 3), left)));
     }
@@ -145,112 +144,14 @@ fn streams_fail(rt: HostRuntime) -> Result<(), Fail> {
         let (call, args, out_room, err_room, which, out, err) = FAULTS[k];
         let row = Row {
             data: b"",
-            call,
-            args,
             out,
             err,
         };
+        let code = calling(rt.alloc(), call, args)?;
         let input = MemSource::failing(rt.alloc(), b"abc", 3)?;
-        let found = stops(rt.alloc(), &row, input, out_room, err_room)?;
+        let found = stops(rt.alloc(), &code, &row, input, out_room, err_room)?;
         let found = found.map(|(stop, _)| told(stop));
         assert_same(&rt, k, found, Some((None, which)));
-    }
-    Ok(())
-}
-
-/// Where the data section begins.
-const DATA: u64 = 1_048_576;
-
-/// The data section, a print or a note of a size, how it ends, and what is written on standard output and error.
-const PRINTS: &[(&[u8], u32, &[u64], End, &[u8], &[u8])] = &[
-    (
-        b"%d,%u,%hhd\0",
-        21,
-        &[DATA, 0xFFFF_FFFF, 0xFFFF_FFFF, 0x180],
-        End::Exit(18),
-        b"-1,4294967295,-128",
-        b"",
-    ),
-    (
-        b"%ld,%lX\0",
-        21,
-        &[DATA, 0x8000_0000_0000_0000, 0xFFFF_FFFF_FFFF_FFFF],
-        End::Exit(37),
-        b"-9223372036854775808,FFFFFFFFFFFFFFFF",
-        b"",
-    ),
-    (
-        b"[%-6s][%.2s]%%\0",
-        21,
-        &[DATA, 65_536, 65_536],
-        End::Exit(13),
-        b"[prog  ][pr]%",
-        b"",
-    ),
-    (b"%c%c\0", 21, &[DATA, 0x141, 10], End::Exit(2), b"A\n", b""),
-    (b"\0", 21, &[DATA], End::Exit(0), b"", b""),
-    (b"x\0", 21, &[DATA; 64], End::Exit(1), b"x", b""),
-    (b"%.0s\0", 21, &[DATA, 0], End::Exit(0), b"", b""),
-    (b"a%s\0", 21, &[DATA, 65_535], End::BadAddress, b"", b""),
-    (b"a%d%d\0", 21, &[DATA, 1], End::BadFormat, b"", b""),
-    (b"a%q\0", 21, &[DATA, 1], End::BadFormat, b"", b""),
-    (b"a%\0", 21, &[DATA, 1], End::BadFormat, b"", b""),
-    (b"%4096d\0", 21, &[DATA, 1], End::BadFormat, b"", b""),
-    (b"a", 21, &[0], End::BadAddress, b"", b""),
-    (b"%x\n\0", 24, &[1, DATA, 0xAB], End::Exit(3), b"ab\n", b""),
-    (b"%x\n\0", 24, &[2, DATA, 0xAB], End::Exit(3), b"", b"ab\n"),
-    (
-        b"%x\n\0",
-        24,
-        &[0x1_0000_0002, DATA, 0xAB],
-        End::Exit(3),
-        b"",
-        b"ab\n",
-    ),
-    (b"%x\n\0", 24, &[0, DATA, 0xAB], End::Exit(255), b"", b""),
-    (b"", 24, &[3, 0], End::Exit(255), b"", b""),
-    (b"%d\0", 24, &[1, DATA], End::BadFormat, b"", b""),
-    (
-        b"",
-        30,
-        &[12, 7, 0, 40],
-        End::Exit(0),
-        b"",
-        b"size 12:7 mode 0 = 40\n",
-    ),
-    (
-        b"",
-        30,
-        &[0, 0, 6, 0],
-        End::Exit(0),
-        b"",
-        b"size 0:0 mode 2 = 0\n",
-    ),
-    (
-        b"",
-        30,
-        &[0xFFFF_FFFF, 0xFFFF_FFFF_FFFF_FFFF, 3, 0xFFFF_FFFF_FFFF_FFFF],
-        End::Exit(0),
-        b"",
-        b"size 4294967295:18446744073709551615 mode 3 = 18446744073709551615\n",
-    ),
-];
-
-#[test]
-fn prints_write(rt: HostRuntime) -> Result<(), Fail> {
-    for k in 0..PRINTS.len() {
-        let (data, call, args, end, out, err) = PRINTS[k];
-        let row = Row {
-            data,
-            call,
-            args,
-            out,
-            err,
-        };
-        let input = MemSource::new(rt.alloc(), b"")?;
-        let found = stops(rt.alloc(), &row, input, 128, 128)?;
-        let found = found.map(|(stop, _)| told(stop));
-        assert_same(&rt, k, found, Some((Some(end), 3)));
     }
     Ok(())
 }

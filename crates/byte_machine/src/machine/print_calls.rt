@@ -1,6 +1,6 @@
 //! The library's prints.
 
-ghost use Rattle.std.specs.Prelude.{◌≡◌, ◌<◌, ◌≤◌, ◌+◌, ℕ, ◌∷◌, length, slice_index, slice_range, true};
+ghost use Rattle.std.specs.Prelude.{◌≡◌, ◌<◌, ◌≤◌, ◌+◌, ℕ, ◌∷◌, length, slice_index, slice_range, cond, true, false};
 ghost use Rattle.run_meaning.specs.Objects.{StreamState, stream, streams};
 ghost use Rattle.c_library.specs.declared.functions.LibFn.{LibFn};
 ghost use Rattle.c_library.specs.Library.{row_of};
@@ -9,14 +9,15 @@ ghost use Rattle.library_meaning.specs.Prints as prints;
 ghost use Rattle.library_meaning.specs.OnBytes.{on_bytes, quiet};
 ghost use Rattle.library_meaning.specs.OnStreams.{Writes};
 ghost use Rattle.library_meaning.specs.Memory.{memory_size};
-ghost use Rattle.byte_machine.specs.Performing.{IsGoing, StandsAtPrint, Performs};
+ghost use Rattle.byte_machine.specs.State.{print_size};
+ghost use Rattle.byte_machine.specs.Performing.{IsGoing, StandsAtPrint, StoresBounded, StoresWhole, Performs};
 
 use super::stream_calls::int_of;
 use super::{Machine, Step};
 use c_library::LibFn;
 use fc_base::Sink;
 use library_meaning::HostStop;
-use print_chk::print_out;
+use print_chk::{print_mem, print_out};
 use run_meaning::Stream;
 
 impl Machine {
@@ -42,6 +43,8 @@ impl Machine {
         match f {
             LibFn::Printf => self.printf(checked, to, count, out),
             LibFn::Dprintf => self.dprintf(checked, to, count, out, err),
+            LibFn::Sprintf => self.sprintf(checked, to, count, err),
+            LibFn::Snprintf => self.snprintf(checked, to, count, err),
             _ => unreachable!(),
         }
     }
@@ -89,6 +92,97 @@ impl Machine {
         }
         self.give(to, u64::MAX)
     }
+
+    /// C11's `sprintf`.
+    fn sprintf<E: Sink>(&mut self, checked: bool, to: u32, count: u32, err: &mut E) -> Step
+        requires running { IsGoing self.old }
+        requires call { StandsAtPrint self.old LibFn.Sprintf checked count to }
+        ensures program { self.new.program ≡ self.old.program }
+        ensures performed { (input out : StreamState) →
+            Performs self.old self.new result (streams input out (stream (E.written err.old) (E.count err.old)))
+            (streams input out (stream (E.written err.new) (E.count err.new))) }
+    {
+        let size = self.print_size(1, checked);
+        let done = self.store_print(false, size, format_slot(1, checked), count as usize);
+        self.stored(to, done, err)
+    }
+
+    /// C11's `snprintf`.
+    fn snprintf<E: Sink>(&mut self, checked: bool, to: u32, count: u32, err: &mut E) -> Step
+        requires running { IsGoing self.old }
+        requires call { StandsAtPrint self.old LibFn.Snprintf checked count to }
+        ensures program { self.new.program ≡ self.old.program }
+        ensures performed { (input out : StreamState) →
+            Performs self.old self.new result (streams input out (stream (E.written err.old) (E.count err.old)))
+            (streams input out (stream (E.written err.new) (E.count err.new))) }
+    {
+        let size = self.print_size(2, checked);
+        let done = self.store_print(true, size, format_slot(2, checked), count as usize);
+        self.stored(to, done, err)
+    }
+
+    /// The size of a print's destination, in slot k of a checked form, without a limit where the call is not checked.
+    fn print_size(&self, k: usize, checked: bool) -> u64
+        requires { k < 64 }
+        ensures { result ≡ print_size k checked self.now.core }
+    {
+        if checked { self.slot(k) } else { u64::MAX }
+    }
+
+    /// Stores at the address in the first slot what the format in a slot prints of the slots behind it, up to the count; where it is
+    /// bounded, at most as many bytes as the second slot says.
+    fn store_print(
+        &mut self,
+        bounded: bool,
+        size: u64,
+        format: usize,
+        count: usize,
+    ) -> Result<u64, HostStop>
+        requires some { format < count }
+        requires few { count ≤ 64 }
+        ensures state { self.new ≡ record self.old { core = record self.old.core { memory = self.new.core.memory } } }
+        ensures slots { length self.old.core.slots ≡ 64 }
+        ensures snprintf { bounded ≡ true → let core = self.old.core in
+            StoresBounded size format count result core.slots core.memory self.new.core.memory }
+        ensures sprintf { bounded ≡ false → let core = self.old.core in
+            StoresWhole size format count result core.slots core.memory self.new.core.memory }
+    {
+        store_slots(&mut self.memory, &self.slots, bounded, size, format, count)
+    }
+}
+
+/// The slot of a print's format, which stands behind the size of a checked form in slot k.
+fn format_slot(k: usize, checked: bool) -> usize
+    requires { k < 64 }
+    ensures { result ≡ k + cond checked 1 0 }
+{
+    if checked { k + 1 } else { k }
+}
+
+/// Stores what the format in an argument slot prints of the slots behind it, up to the count.
+fn store_slots(
+    memory: &mut [u8],
+    slots: &[u64; 64],
+    bounded: bool,
+    size: u64,
+    format: usize,
+    count: usize,
+) -> Result<u64, HostStop>
+    requires memory { length memory.old ≡ memory_size }
+    requires some { format < count }
+    requires few { count ≤ 64 }
+    ensures snprintf { bounded ≡ true → StoresBounded size format count result slots.now memory.old memory.new }
+    ensures sprintf { bounded ≡ false → StoresWhole size format count result slots.now memory.old memory.new }
+{
+    print_mem(
+        memory,
+        slots[0],
+        slots[1],
+        size,
+        slots[format],
+        &slots[format + 1..count],
+        bounded,
+    )
 }
 
 /// Writes on a sink what the format in an argument slot prints of the slots behind it, up to the count.

@@ -1,6 +1,6 @@
 -- Zero bytes by the product, or a null pointer past 64 bits.
-use Rattle.std.proofs.Common.{◌≡◌, ◌*◌, ◌<◌, ◌^◌, ℕ, Bool, cond, true, false, nat_lt, refl, sym, ◌∙◌, ap, arith}
-use Rattle.std.proofs.lemmas.Bool.{lt-ltb, le-ltb}
+use Rattle.std.proofs.Common.{◌≡◌, ◌*◌, ◌^◌, false, nat_lt, refl, ◌∙◌, ap, arith}
+use Rattle.std.proofs.lemmas.Bool.{le-ltb}
 use Rattle.bm_isa.specs.declared.instructions.Instr.TheVariants as instr
 use Rattle.c_library.specs.declared.functions.LibFn.TheVariants as calls
 use Rattle.byte_machine.specs.State.{slot_value, clearing, giving}

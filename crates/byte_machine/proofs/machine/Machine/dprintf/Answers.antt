@@ -1,5 +1,5 @@
 -- On one of the two descriptors it writes what its row shows, and on another nothing.
-use Rattle.std.proofs.Common.{ℕ, List, ◌∷◌, length, refl, sym, ◌∙◌, subst, arith}
+use Rattle.std.proofs.Common.{ℕ, List, ◌∷◌, length, refl, sym, ◌∙◌}
 use Rattle.std.specs.Prelude.{slice_range}
 use Rattle.run_meaning.specs.Objects.{stream, streams}
 use Rattle.bm_isa.specs.declared.instructions.Instr.TheVariants as instr
@@ -9,7 +9,7 @@ use Rattle.library_meaning.specs.Table.{int_of, no_limit}
 use Rattle.byte_machine.specs.State.{slot_value, giving}
 use Rattle.byte_machine.specs.Machines.{Loaded}
 use Rattle.byte_machine.specs.View.{loaded_of}
-use Rattle.byte_machine.proofs.Printed.{few_dprintf, dprintf_acts, dprintf_elsewhere, print_shows}
+use Rattle.byte_machine.proofs.Printed.{dprintf_acts, dprintf_elsewhere, print_shows}
 use Rattle.byte_machine.proofs.Slots.{all_slots, descriptor_read, neither}
 use Rattle.byte_machine.proofs.Steps.{went_on}
 use Rattle.byte_machine.proofs.Written.{wrote_by, on_out, on_err}

@@ -1,5 +1,5 @@
 -- A byte was taken, or the end is told, or the source failed.
-use Rattle.std.proofs.Common.{◌≤◌, ℕ, Bool, Option, [], ap, sym, refl, subst, Result, Ok, Err, arith}
+use Rattle.std.proofs.Common.{◌≤◌, Bool, Option, [], ap, sym, refl, subst, arith}
 use Rattle.run_meaning.specs.Objects.{stream, streams}
 use Rattle.c_library.specs.declared.functions.LibFn.{LibFn}
 use Rattle.c_library.specs.declared.functions.LibFn.TheVariants as calls

@@ -1,5 +1,5 @@
 -- What was written is what the row shows.
-use Rattle.std.proofs.Common.{ℕ, List, ◌∷◌, length, refl, subst, arith}
+use Rattle.std.proofs.Common.{ℕ, List, ◌∷◌, length}
 use Rattle.run_meaning.specs.Objects.{stream, streams}
 use Rattle.std.specs.Prelude.{slice_range}
 use Rattle.library_meaning.specs.Prints as prints
@@ -7,7 +7,7 @@ use Rattle.byte_machine.specs.State.{slot_value}
 use Rattle.library_meaning.specs.Rows.{Row}
 use Rattle.byte_machine.specs.Machines.{Loaded}
 use Rattle.byte_machine.specs.View.{loaded_of}
-use Rattle.byte_machine.proofs.Printed.{few_printf, printf_acts, print_shows}
+use Rattle.byte_machine.proofs.Printed.{printf_acts, print_shows}
 use Rattle.byte_machine.proofs.Slots.{all_slots}
 use Rattle.byte_machine.proofs.Written.{wrote_by, on_out}
 use Rattle.byte_machine.proofs.machine.Machine.printf.Goals as goal

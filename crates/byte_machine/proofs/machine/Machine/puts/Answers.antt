@@ -1,5 +1,5 @@
 -- What was written is what the row shows.
-use Rattle.std.proofs.Common.{ℕ, List, ◌∷◌, [], refl, subst}
+use Rattle.std.proofs.Common.{ℕ, List, ◌∷◌, [], refl}
 use Rattle.run_meaning.specs.Objects.{stream, streams}
 use Rattle.library_meaning.specs.Table as table
 use Rattle.byte_machine.specs.State.{slot_value}

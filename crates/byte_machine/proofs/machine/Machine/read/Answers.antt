@@ -1,6 +1,5 @@
 -- Bytes were taken, or the source failed, or its row stops.
-use Rattle.std.proofs.Common.{◌≡◌, ◌≤◌, ℕ, Bool, Option, Result, Ok, Err, List, ◌∷◌, [], refl, sym, ◌∙◌, ap, subst}
-use Rattle.std.specs.Prelude.{eqb}
+use Rattle.std.proofs.Common.{◌≡◌, ◌≤◌, Bool, Option, Err, ◌∷◌, [], refl, sym, ◌∙◌, ap, subst}
 use Rattle.bm_isa.specs.declared.instructions.Instr.TheVariants as instr
 use Rattle.c_library.specs.declared.functions.LibFn.{LibFn}
 use Rattle.run_meaning.specs.Objects.{stream, streams}

@@ -1,6 +1,5 @@
 -- It gives -1.
-use Rattle.std.proofs.Common.{◌≡◌, ◌==◌, ◌∙◌, ℕ, Bool, false, cond, ap, sym, refl}
-use Rattle.std.specs.Prelude.{eqb, ltb}
+use Rattle.std.proofs.Common.{◌∙◌, cond, ap, refl}
 use Rattle.c_library.specs.declared.functions.LibFn.TheVariants as calls
 use Rattle.bm_isa.specs.declared.instructions.Instr.TheVariants as instr
 use Rattle.library_meaning.specs.Table.{int_of, no_limit}

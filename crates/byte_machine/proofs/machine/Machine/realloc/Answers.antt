@@ -1,5 +1,5 @@
 -- A new block, the live block becomes another, or there is none.
-use Rattle.std.proofs.Common.{◌≡◌, ◌==◌, ℕ, Bool, cond, min, Option, None, Some, refl, sym, ◌∙◌, ap}
+use Rattle.std.proofs.Common.{◌≡◌, ℕ, Bool, cond, min, Option, None, Some, refl, sym, ◌∙◌, ap}
 use Rattle.fc_base.specs.declared.levels.End.TheVariants as ends
 use Rattle.bm_isa.specs.declared.instructions.Instr.TheVariants as instr
 use Rattle.bm_heap.specs.Heaps.{place_for}

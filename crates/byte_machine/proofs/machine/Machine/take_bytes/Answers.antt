@@ -1,5 +1,5 @@
 -- The row of `read` at the machine's slots and memory.
-use Rattle.std.proofs.Common.{◌≡◌, ℕ, List, ◌∷◌, [], ◌++◌, length, take, drop, sym, ◌∙◌, ap, subst, arith}
+use Rattle.std.proofs.Common.{◌≡◌, ℕ, List, ◌∷◌, [], length, sym, subst, arith}
 use Rattle.run_meaning.specs.Objects.{stream}
 use Rattle.library_meaning.specs.Rows.{run}
 use Rattle.library_meaning.specs.Table as table

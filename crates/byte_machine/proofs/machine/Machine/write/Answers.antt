@@ -1,5 +1,5 @@
 -- On one of the two descriptors it writes what its row shows, and on another nothing.
-use Rattle.std.proofs.Common.{ℕ, List, ◌∷◌, [], refl, sym, ◌∙◌, subst}
+use Rattle.std.proofs.Common.{ℕ, List, ◌∷◌, [], refl, sym, ◌∙◌}
 use Rattle.run_meaning.specs.Objects.{stream, streams}
 use Rattle.bm_isa.specs.declared.instructions.Instr.TheVariants as instr
 use Rattle.c_library.specs.declared.functions.LibFn.TheVariants as calls

@@ -1,10 +1,9 @@
 -- A call that has written goes on or stops as its row says.
-use Rattle.std.proofs.Common.{◌≡◌, ℕ, Result, Ok, Err, refl, sym, ◌∙◌, ap, subst}
+use Rattle.std.proofs.Common.{ℕ, Result, Err, refl, ◌∙◌, ap, subst}
 use Rattle.fc_base.specs.declared.levels.End.TheVariants as ends
 use Rattle.bm_isa.specs.declared.instructions.Instr.TheVariants as instr
 use Rattle.library_meaning.specs.declared.stops.HostStop.{HostStop}
 use Rattle.library_meaning.specs.declared.stops.HostStop.TheVariants as host
-use Rattle.byte_machine.specs.Machines.{Loaded, fault_of}
 use Rattle.byte_machine.specs.Performing.{HasWritten, stopped_with}
 use Rattle.byte_machine.specs.declared.machine.Stop.{Stop}
 use Rattle.byte_machine.specs.declared.machine.Step.TheVariants as steps
