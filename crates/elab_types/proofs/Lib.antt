@@ -1,0 +1,3 @@
+pub mod Bounds
+pub mod NamedTypes
+pub mod Standing
