@@ -4,7 +4,9 @@ mod Exchanges
 mod Filling
 mod Marked
 mod NextCells
+mod Numbered
 mod Numbers
+mod Paging
 mod Pointers
 mod Putting
 mod Spots

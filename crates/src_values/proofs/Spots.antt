@@ -12,7 +12,7 @@ use Rattle.library_meaning.specs.Memory.{put}
 use Rattle.library_meaning.specs.Scan.{and_then}
 use Rattle.object_meaning.specs.Cells.{byte_then, bytes_in, number_of, is_uninit, pointer_from, pointer_in}
 use Rattle.object_meaning.specs.Memory.{IsMemory, load_cells, load, load_pointer, store_cells}
-use Rattle.object_meaning.specs.Objects.{Object, ended, object_at, is_live, size_at, cells_behind, with_cells, put_cells}
+use Rattle.object_meaning.specs.Objects.{Object, object_at, is_live, size_at, cells_behind, with_cells, put_cells}
 use Rattle.object_meaning.specs.Touches.{test, tested, lies_in, touch_tests, cells_from, put_at}
 use Rattle.object_meaning.specs.declared.values.Cell.{Cell}
 use Rattle.object_meaning.specs.declared.values.Cell.TheVariants.{Byte, Uninit, Part}
@@ -148,15 +148,14 @@ get_or_any (x ∷ xs) (suc i) d e l = get_or_any xs i d e (omega arith)
 pub there : (items objs : List Object) (o : ℕ) → items ≡ objs → is_live objs o ≡ true → o < length items
 there items objs o same l = live_there items o (ap (λ xs. is_live xs o) same ∙ l)
 
-pub found : (items objs : List Object) (o : ℕ) (x : Object) → items ≡ objs → is_live objs o ≡ true → x ≡ get_or items o x
-    → x ≡ object_at objs o
-found items objs o x same l e = e ∙ get_or_any items o x ended (there items objs o same l) ∙ ap (λ xs. object_at xs o) same
+pub found : (items objs : List Object) (o : ℕ) (x : Object) → items ≡ objs → x ≡ object_at items o → x ≡ object_at objs o
+found items objs o x same e = e ∙ ap (λ xs. object_at xs o) same
 
 pub room_in : (items objs : List Object) (o start n : ℕ) (x : Object) → IsMemory items → items ≡ objs → is_live objs o ≡ true
-    → start + n ≤ size_at objs o → x ≡ get_or items o x → start + n ≤ length x.cells
+    → start + n ≤ size_at objs o → x ≡ object_at items o → start + n ≤ length x.cells
 room_in items objs o start n x w same l fits e =
     let full = (subst IsMemory same w).full o l in
-    let is = ap (λ (y : Object). length y.cells) (found items objs o x same l e) in
+    let is = ap (λ (y : Object). length y.cells) (found items objs o x same e) in
     omega (arith, full, is, fits)
 
 -- the next of the cells that are read
@@ -169,11 +168,11 @@ take_next cells at n l there =
     ∙ ap (λ k. get_or cells at Uninit ∷ take (n - 1) (drop k cells)) (sym f)
 
 -- the objects with one that was found and written
-pub written_is : (items objs : List Object) (o start : ℕ) (x y : Object) (new : List Cell) → items ≡ objs → is_live objs o ≡ true
-    → x ≡ get_or items o x → y ≡ with_cells x (put start new x.cells) → set items o y ≡ put_cells objs o (pos start) new
-written_is items objs o start x y new same l e w =
+pub written_is : (items objs : List Object) (o start : ℕ) (x y : Object) (new : List Cell) → items ≡ objs
+    → x ≡ object_at items o → y ≡ with_cells x (put start new x.cells) → set items o y ≡ put_cells objs o (pos start) new
+written_is items objs o start x y new same e w =
     ap (λ xs. set xs o y) same ∙ ap (set objs o) (w
-    ∙ ap (λ (z : Object). with_cells z (put start new z.cells)) (found items objs o x same l e))
+    ∙ ap (λ (z : Object). with_cells z (put start new z.cells)) (found items objs o x same e))
 
 -- of the cells that are read, the first says what kind of pointer they are
 pub pointer_by_first : (cells : List Cell) (at : ℕ) → at < length cells → list_any is_uninit (take 8 (drop at cells)) ≡ false

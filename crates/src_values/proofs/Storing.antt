@@ -1,5 +1,5 @@
 -- What a store has done.
-use Rattle.std.proofs.Common.{◌≡◌, ℕ, zero, suc, ◌<◌, true, List, length, map, get_or, set, Ok, Err, refl, sym, ap, subst, ◌∙◌, arith}
+use Rattle.std.proofs.Common.{◌≡◌, ℕ, zero, suc, ◌<◌, true, List, length, map, set, Ok, Err, refl, sym, ap, subst, ◌∙◌, arith}
 use Rattle.std.specs.Prelude.{IfOk, pos}
 use Rattle.fc_base.specs.Widths.{width_bytes}
 use Rattle.fc_base.specs.declared.levels.Width.{Width}
@@ -7,7 +7,7 @@ use Rattle.fc_base.specs.declared.undefined.UndefKind.{UndefKind}
 use Rattle.library_meaning.specs.Memory.{put}
 use Rattle.object_meaning.specs.Cells.{bytes_of, cells_of, parts_of}
 use Rattle.object_meaning.specs.Memory.{store, store_pointer, IsMemory, SameObjects}
-use Rattle.object_meaning.specs.Objects.{Object, with_cells, put_cells}
+use Rattle.object_meaning.specs.Objects.{Object, object_at, with_cells, put_cells}
 use Rattle.object_meaning.specs.declared.values.Cell.TheVariants.{Byte}
 use Rattle.object_meaning.specs.Provenance.{IsPointer}
 use Rattle.object_meaning.specs.declared.values.Ptr.{Ptr}
@@ -27,11 +27,11 @@ pub record Stored (items objs : List Object) (v : PtrValue) (width : Width) (x :
   pub is_memory : IsMemory (set items o new)
 
 pub store_done : (items objs : List Object) (v : PtrValue) (width : Width) (x n : ℕ) (spot : Spot) (old new : Object) → IsMemory items
-    → items ≡ objs → n ≡ width_bytes width → 0 < n → spot_for objs true v n ≡ Ok spot → old ≡ get_or items spot.object old
+    → items ≡ objs → n ≡ width_bytes width → 0 < n → spot_for objs true v n ≡ Ok spot → old ≡ object_at items spot.object
     → new ≡ with_cells old (put spot.start (map Byte (bytes_of n x)) old.cells) → Stored items objs v width x spot.object new
 store_done items objs v width x n spot old new w same e some at found_at written =
     let s = spot_tells objs true v n spot at in
-    let put_is = written_is items objs spot.object spot.start old new (map Byte (bytes_of n x)) same s.live found_at written in
+    let put_is = written_is items objs spot.object spot.start old new (map Byte (bytes_of n x)) same found_at written in
     let done : store objs v width x ≡ Ok (put_cells objs spot.object (pos spot.start) (map Byte (bytes_of n x))) = subst
     (λ k. store objs v width x ≡ Ok (put_cells objs spot.object (pos spot.start) (map Byte (bytes_of k x)))) (sym e)
     (store_cells_is objs v (map Byte (bytes_of (width_bytes width) x)) (width_bytes width) spot (length_bytes (width_bytes width) x)
@@ -58,11 +58,11 @@ pub record StoredPointer (items objs : List Object) (v x : PtrValue) (o : ℕ) (
   pub is_memory : IsMemory (set items o new)
 
 pub store_pointer_done : (items objs : List Object) (v x : PtrValue) (spot : Spot) (old new : Object) → IsMemory items → items ≡ objs
-    → IsPointer objs x → spot_for objs true v 8 ≡ Ok spot → old ≡ get_or items spot.object old
+    → IsPointer objs x → spot_for objs true v 8 ≡ Ok spot → old ≡ object_at items spot.object
     → new ≡ with_cells old (put spot.start (cells_of x) old.cells) → StoredPointer items objs v x spot.object new
 store_pointer_done items objs v x spot old new w same pointer at found_at written =
     let s = spot_tells objs true v 8 spot at in
-    let put_is = written_is items objs spot.object spot.start old new (cells_of x) same s.live found_at written in
+    let put_is = written_is items objs spot.object spot.start old new (cells_of x) same found_at written in
     let done : store_pointer objs v x ≡ Ok (put_cells objs spot.object (pos spot.start) (cells_of x)) = store_cells_is objs v
     (cells_of x) 8 spot (length_cells x) (omega arith) at in
     let kept = subst (λ r. IfOk r (λ after. IsMemory after × SameObjects objs after)) done

@@ -1,7 +1,11 @@
 pub mod Bracket
+pub mod Lending
+pub mod Lent
 pub mod Numbers
+pub mod Pages
 pub mod Parts
 pub mod Rests
 pub mod Seen
 pub mod Spots
+pub mod Table
 pub mod View

@@ -1,11 +1,12 @@
 //! Cells that are copied as they are.
 
-ghost use Rattle.std.specs.Prelude.{◌≡◌, ◌≢◌, ◌+◌, ◌<◌, ◌≤◌, pos, length, map, take, drop, vec_len};
+ghost use Rattle.std.specs.Prelude.{◌≡◌, ◌≢◌, ◌+◌, ◌<◌, ◌≤◌, pos, length, map, take, drop, true, vec_len};
 ghost use Rattle.library_meaning.specs.Memory.{put};
-ghost use Rattle.object_meaning.specs.Objects.{object_at, with_cells, put_cells};
+ghost use Rattle.object_meaning.specs.Objects.{object_at, is_live, with_cells, put_cells};
 ghost use Rattle.object_meaning.specs.declared.values.Cell.TheVariants.{Byte};
 
 use crate::objects::Object;
+use crate::table::Objects;
 use object_meaning::Cell;
 use std::alloc::Global;
 use std::mem::replace;
@@ -73,20 +74,20 @@ fn copy_between(to: &mut Object, at: usize, from: &Object, start: usize, count: 
 }
 
 /// Copies so many cells from one place to another, in one object or between two.
-pub fn copy_cells(objects: &mut Vec<Object>, to: Spot, from: Spot, count: usize, alloc: Global)
-    requires target_there { to.object < length objects.old.items }
-    requires source_there { from.object < length objects.old.items }
-    requires target { to.start + count ≤ length (object_at objects.old.items to.object).cells }
-    requires source { from.start + count ≤ length (object_at objects.old.items from.object).cells }
-    ensures { objects.new.items ≡ put_cells objects.old.items to.object (pos to.start)
-        (take count (drop from.start (object_at objects.old.items from.object).cells)) }
+pub fn copy_cells(objects: &mut Objects, to: Spot, from: Spot, count: usize, alloc: Global)
+    requires target_live { is_live objects.old to.object ≡ true }
+    requires source_live { is_live objects.old from.object ≡ true }
+    requires target { to.start + count ≤ length (object_at objects.old to.object).cells }
+    requires source { from.start + count ≤ length (object_at objects.old from.object).cells }
+    ensures { objects.new ≡ put_cells objects.old to.object (pos to.start)
+        (take count (drop from.start (object_at objects.old from.object).cells)) }
 {
     if to.object == from.object {
-        let object = &mut objects[to.object as usize];
+        let object = objects.at_mut(to.object);
         copy_within(object, to.start as usize, from.start as usize, count);
     } else {
-        let source = replace(&mut objects[from.object as usize], Object::ended(alloc));
-        let target = &mut objects[to.object as usize];
+        let source = replace(objects.at_mut(from.object), Object::stand_in(alloc));
+        let target = objects.at_mut(to.object);
         copy_between(
             target,
             to.start as usize,
@@ -94,7 +95,8 @@ pub fn copy_cells(objects: &mut Vec<Object>, to: Spot, from: Spot, count: usize,
             from.start as usize,
             count,
         );
-        objects[from.object as usize] = source;
+        let back = objects.at_mut(from.object);
+        *back = source;
     }
 }
 

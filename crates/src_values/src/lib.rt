@@ -7,11 +7,14 @@ mod loads;
 mod memory;
 mod moves;
 mod objects;
+mod pages;
 mod parts;
 mod places;
 mod rules;
 mod sizes;
 mod stores;
+mod table;
+mod validity;
 
 pub use memory::Memory;
 pub use object_meaning::{Cell, Ptr, PtrValue, Tag};

@@ -11,13 +11,14 @@ ghost use Rattle.src_values.specs.Bracket.{BoundsTrueSize};
 ghost use Rattle.src_values.specs.Numbers.{Changes};
 ghost use Rattle.src_values.specs.Spots.{spot_for, spots_for};
 
-use crate::copies::{Spot, copy_cells, put_bytes};
+use crate::copies::{Spot, copy_cells};
 use crate::loads::number_at;
 use crate::moves::{moved_tag, moved_within};
 use crate::objects::Object;
 use crate::parts::pointer_at;
 use crate::sizes::{bound_size, fits, rest_of, unknown_size};
 use crate::stores::{store_bytes, store_place};
+use crate::table::Objects;
 use fc_base::{Mode, NoMemory, UndefKind, Width};
 use object_meaning::{Cell, Ptr, PtrValue, Tag, sizes_law};
 use std::alloc::Global;
@@ -27,7 +28,7 @@ use std::marker::Model;
 #[derive(Drop)]
 pub struct Memory {
     alloc: Global,
-    objects: Vec<Object>,
+    objects: Objects,
 }
 
 impl Model for Memory {
@@ -37,9 +38,9 @@ impl Model for Memory {
 
     ghost Value = { List PlainObject };
 
-    ghost view = { λ m. m.objects.items };
+    ghost view = { λ m. m.objects };
 
-    ghost invariant = { λ m. IsMemory m.objects.items };
+    ghost invariant = { λ m. IsMemory m.objects };
 }
 
 impl Memory {
@@ -49,7 +50,7 @@ impl Memory {
     {
         Memory {
             alloc,
-            objects: Vec::new(alloc),
+            objects: Objects::new(alloc),
         }
     }
 
@@ -59,9 +60,9 @@ impl Memory {
         ensures added { IfOk result (λ number. (number ≡ length self.old) × (self.new ≡ add self.old (begun size writable zeroed))) }
         ensures no_memory { OnErr result (self.new ≡ self.old) }
     {
-        let number = self.objects.len() as u64;
+        let number = self.objects.len();
         let object = Object::begun(self.alloc, size as usize, writable, zeroed)?;
-        self.objects.push(object)?;
+        self.objects.push(object, self.alloc)?;
         Ok(number)
     }
 
@@ -70,7 +71,7 @@ impl Memory {
         requires { is_live self.old object ≡ true }
         ensures { self.new ≡ finish self.old object }
     {
-        self.objects[object as usize] = Object::ended(self.alloc);
+        self.objects.end(object, self.alloc);
     }
 
     /// Gives an object all its bytes.
@@ -79,39 +80,35 @@ impl Memory {
         requires whole { length bytes.now ≡ size_at self.old object }
         ensures { self.new ≡ fill self.old object bytes.now }
     {
-        let filled = &mut self.objects[object as usize];
-        let _size = filled.size();
-        put_bytes(filled, 0, bytes);
+        self.objects.fill(object, bytes);
+    }
+
+    /// How many objects there are, ended ones too.
+    pub fn len(&self) -> u64
+        ensures { result ≡ length self.now }
+    {
+        self.objects.len()
     }
 
     /// Whether an object lives.
     pub fn is_live(&self, object: u64) -> bool
         ensures { result ≡ is_live self.now object }
     {
-        match self.objects.get(object as usize) {
-            Some(found) => found.is_live(),
-            None => false,
-        }
+        self.objects.is_live(object)
     }
 
     /// How many bytes an object has.
     pub fn object_size(&self, object: u64) -> u64
         ensures { result ≡ size_at self.now object }
     {
-        match self.objects.get(object as usize) {
-            Some(found) => found.size() as u64,
-            None => 0,
-        }
+        self.objects.size_at(object)
     }
 
     /// Whether an object may be written.
     pub fn is_writable(&self, object: u64) -> bool
         ensures { result ≡ (object_at self.now object).writable }
     {
-        match self.objects.get(object as usize) {
-            Some(found) => found.is_writable(),
-            None => false,
-        }
+        self.objects.is_writable(object)
     }
 
     /// Where so many bytes lie that an operation reads or writes, one at least, or why it is undefined.
@@ -124,12 +121,10 @@ impl Memory {
         let PtrValue::At(place) = at else {
             return Err(UndefKind::NullPointer);
         };
-        let Some(object) = self.objects.get(place.object as usize) else {
-            return Err(UndefKind::DeadObject);
-        };
-        if !object.is_live() {
+        if !self.objects.is_live(place.object) {
             return Err(UndefKind::DeadObject);
         }
+        let object = self.objects.at(place.object);
         let start = place.offset.unsigned_abs();
         if !fits(object.size() as u64, start, count) {
             return Err(UndefKind::OutOfObject);
@@ -144,7 +139,7 @@ impl Memory {
     }
 
     /// Whether a pointer is to an object that has ended.
-    fn is_dead(&self, p: PtrValue) -> bool
+    pub fn is_dead(&self, p: PtrValue) -> bool
         ensures { result ≡ is_dead self.now p }
     {
         match p {
@@ -297,7 +292,7 @@ impl Memory {
         let count = bytes(width);
         match self.reach(at, count, false) {
             Ok(spot) => number_at(
-                &self.objects[spot.object as usize],
+                self.objects.at(spot.object),
                 spot.start as usize,
                 count as usize,
             ),
@@ -312,7 +307,7 @@ impl Memory {
         ensures pointer { IfOk result (IsPointer self.now) }
     {
         match self.reach(at, 8, false) {
-            Ok(spot) => pointer_at(&self.objects[spot.object as usize], spot.start as usize),
+            Ok(spot) => pointer_at(self.objects.at(spot.object), spot.start as usize),
             Err(kind) => Err(kind),
         }
     }
@@ -325,7 +320,7 @@ impl Memory {
         let count = bytes(width);
         match self.reach(at, count, true) {
             Ok(spot) => {
-                let object = &mut self.objects[spot.object as usize];
+                let object = self.objects.at_mut(spot.object);
                 store_bytes(object, spot.start as usize, count as usize, value);
                 Ok(())
             }
@@ -341,7 +336,7 @@ impl Memory {
     {
         match self.reach(at, 8, true) {
             Ok(spot) => {
-                let object = &mut self.objects[spot.object as usize];
+                let object = self.objects.at_mut(spot.object);
                 store_place(object, spot.start as usize, value);
                 Ok(())
             }

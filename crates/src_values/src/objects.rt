@@ -1,6 +1,6 @@
 //! One object.
 
-ghost use Rattle.std.specs.Prelude.{◌≡◌, ◌<◌, get_or, set, map, length, IfOk};
+ghost use Rattle.std.specs.Prelude.{◌≡◌, ◌<◌, true, get_or, set, map, length, IfOk};
 ghost use Rattle.object_meaning.specs.declared.values.Cell.TheVariants.{Byte, Uninit};
 ghost use Rattle.object_meaning.specs.Objects.{ended, begun, with_cells};
 
@@ -39,6 +39,17 @@ impl Object {
         }
     }
 
+    /// What stands for a live object while it is taken out.
+    pub fn stand_in(alloc: Global) -> Object
+        ensures { result.alive ≡ true }
+    {
+        Object {
+            cells: Cells::none(alloc),
+            alive: true,
+            writable: false,
+        }
+    }
+
     /// An object as it begins.
     pub fn begun(
         alloc: Global,
@@ -60,6 +71,13 @@ impl Object {
         ensures { result ≡ self.now.alive }
     {
         self.alive
+    }
+
+    /// Whether nothing is left of it.
+    pub fn has_ended(&self) -> bool
+        ensures { result ≡ true → self.now ≡ ended }
+    {
+        !self.alive && !self.writable && self.cells.len() == 0
     }
 
     pub fn is_writable(&self) -> bool

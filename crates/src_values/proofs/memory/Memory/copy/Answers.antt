@@ -11,8 +11,8 @@ returns-then-count-eq0 c =
 
 pub invariant_of-self : goal.invariant_of-self
 invariant_of-self c =
-    (copy_done c.self.inside.objects.items c.args.self.now c.args.to c.args.from c.args.count c.in-Ok.spots.0 c.in-Ok.spots.1
-    c.copy_cells.new.objects.items c.self.invariant c.self.view_is
+    (copy_done c.self.inside.objects c.args.self.now c.args.to c.args.from c.args.count c.in-Ok.spots.0 c.in-Ok.spots.1
+    c.copy_cells.new.objects c.self.invariant c.self.view_is
     (omega (arith, c.if-count-eq0.false)) (sym c.reach_both.ensures ∙ c.in-Ok.is) c.copy_cells.ensures).is_memory
 
 pub returns-in-Err : goal.returns-in-Err

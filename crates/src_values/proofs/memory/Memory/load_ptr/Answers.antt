@@ -12,8 +12,7 @@ pub returns-in-Ok-clause-value : goal.returns-in-Ok-clause-value
 returns-in-Ok-clause-value c =
     let at = sym c.reach.ensures ∙ c.in-Ok.is in
     let spot = spot_tells c.args.self.now false c.args.at 8 c.in-Ok.spot at in
-    let object = found c.self.inside.objects.items c.args.self.now c.in-Ok.spot.object c.index.result.now c.self.view_is spot.live
-    c.index.ensures in
+    let object = found c.self.inside.objects c.args.self.now c.in-Ok.spot.object c.at.result.now c.self.view_is c.at.ensures in
     c.pointer_at.ensures
     ∙ ap (λ (x : Object). pointer_in (take 8 (drop c.in-Ok.spot.start x.cells))) object
     ∙ sym (load_pointer_is c.args.self.now c.args.at c.in-Ok.spot at)
@@ -22,8 +21,7 @@ pub returns-in-Ok-clause-pointer : goal.returns-in-Ok-clause-pointer
 returns-in-Ok-clause-pointer c =
     let at = sym c.reach.ensures ∙ c.in-Ok.is in
     let spot = spot_tells c.args.self.now false c.args.at 8 c.in-Ok.spot at in
-    let object = found c.self.inside.objects.items c.args.self.now c.in-Ok.spot.object c.index.result.now c.self.view_is spot.live
-    c.index.ensures in
+    let object = found c.self.inside.objects c.args.self.now c.in-Ok.spot.object c.at.result.now c.self.view_is c.at.ensures in
     subst (λ r. IfOk r (IsPointer c.args.self.now))
     (load_pointer_is c.args.self.now c.args.at c.in-Ok.spot at
     ∙ sym (c.pointer_at.ensures ∙ ap (λ (x : Object). pointer_in (take 8 (drop c.in-Ok.spot.start x.cells))) object))

@@ -5,16 +5,16 @@ use Rattle.src_values.proofs.memory.Memory.store.Goals as goal
 
 pub invariant_of-self : goal.invariant_of-self
 invariant_of-self c =
-    (store_done c.self.inside.objects.items c.args.self.now c.args.at c.args.width c.args.value c.bytes-count.result c.in-Ok.spot
-    c.index_mut-object.result.now c.store_bytes.new.object c.self.invariant c.self.view_is c.bytes-count.ensures.bytes
-    c.bytes-count.ensures.some (sym c.reach.ensures ∙ c.in-Ok.is) c.index_mut-object.ensures.value c.store_bytes.ensures).is_memory
+    (store_done c.self.inside.objects c.args.self.now c.args.at c.args.width c.args.value c.bytes-count.result c.in-Ok.spot
+    c.at_mut-object.result.now c.store_bytes.new.object c.self.invariant c.self.view_is c.bytes-count.ensures.bytes
+    c.bytes-count.ensures.some (sym c.reach.ensures ∙ c.in-Ok.is) c.at_mut-object.ensures.value c.store_bytes.ensures).is_memory
 
 pub returns-in-Ok : goal.returns-in-Ok
 returns-in-Ok c =
-    subst (λ r. Changes r c.args.self.now (set c.self.inside.objects.items c.in-Ok.spot.object c.store_bytes.new.object) (Ok tt))
-    (sym (store_done c.self.inside.objects.items c.args.self.now c.args.at c.args.width c.args.value c.bytes-count.result c.in-Ok.spot
-    c.index_mut-object.result.now c.store_bytes.new.object c.self.invariant c.self.view_is c.bytes-count.ensures.bytes
-    c.bytes-count.ensures.some (sym c.reach.ensures ∙ c.in-Ok.is) c.index_mut-object.ensures.value c.store_bytes.ensures).is) refl
+    subst (λ r. Changes r c.args.self.now (set c.self.inside.objects c.in-Ok.spot.object c.store_bytes.new.object) (Ok tt))
+    (sym (store_done c.self.inside.objects c.args.self.now c.args.at c.args.width c.args.value c.bytes-count.result c.in-Ok.spot
+    c.at_mut-object.result.now c.store_bytes.new.object c.self.invariant c.self.view_is c.bytes-count.ensures.bytes
+    c.bytes-count.ensures.some (sym c.reach.ensures ∙ c.in-Ok.is) c.at_mut-object.ensures.value c.store_bytes.ensures).is) refl
 
 pub returns-in-Err : goal.returns-in-Err
 returns-in-Err c =
