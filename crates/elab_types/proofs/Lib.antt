@@ -1,3 +1,4 @@
 pub mod Bounds
+pub mod Ints
 pub mod NamedTypes
 pub mod Standing

@@ -2,12 +2,14 @@
 #![tactic(auto)]
 
 mod declarators;
+mod enumerations;
 mod forming;
 mod shapes;
 mod typer;
 mod words;
 
 pub use declarators::{is_function, name_of, place_of, stars};
+pub use enumerations::enum_tag;
 pub use forming::{Broken, Formed, MOST_PARAMETERS, Made};
 pub use shapes::{Bound, Parameter, Part, formed};
 pub use typer::Typer;
