@@ -31,7 +31,7 @@ same_whole : (p q : Part) → Alike p q → p.whole ≡ q.whole
 same_whole _ _ (alike e v w x y h k) = refl
 
 -- parts of parts
-map_map : (A A' B B' C C' : Type 0) (f : A → B) (f' : A' → B') (g : B → C) (g' : B' → C') (y : TypedKind-F A A')
+pub map_map : (A A' B B' C C' : Type 0) (f : A → B) (f' : A' → B') (g : B → C) (g' : B' → C') (y : TypedKind-F A A')
     → map-TypedKind B B' C C' g g' (map-TypedKind A A' B B' f f' y) ≡ map-TypedKind A A' C C' (λ a. g (f a)) (λ a. g' (f' a)) y
 map_map A A' B B' C C' f f' g g' (TypedKind-F.Comma all) = ap (λ es. TypedKind-F.Comma es) (map-map g' f' all)
 map_map A A' B B' C C' f f' g g' (TypedKind-F.Call callee args) = ap (λ es. TypedKind-F.Call callee es) (map-map g' f' args)

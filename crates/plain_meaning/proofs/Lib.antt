@@ -3,6 +3,7 @@ mod Extends
 mod ExtendsFunctions
 mod ExtendsNodes
 mod ExtendsStatements
-mod ExtendsTrees
+pub mod ExtendsTrees
 mod ExtendsValues
 mod Nodes
+mod Rows
