@@ -47,20 +47,29 @@ pub fn decayed(alloc: Global, expr: TypedExpr) -> Result<TypedExpr, NoMemory>
     Ok(typed_cast(alloc, true, expr, pointer, place)?)
 }
 
+/// The same with a type that is let go here.
+pub(crate) fn converted_to(alloc: Global, to: CType, expr: TypedExpr) -> Result<TypedExpr, NoMemory>
+    ensures { IfOk result (λ e. e ≡ converted to expr) }
+{
+    let of_type = converted(alloc, &to, expr);
+    to.let_go();
+    of_type
+}
+
 /// Two expressions, each converted to a type.
 pub(crate) fn both_converted(
     alloc: Global,
-    left: &CType,
+    left: CType,
     a: TypedExpr,
-    right: &CType,
+    right: CType,
     b: TypedExpr,
 ) -> Result<(TypedExpr, TypedExpr), NoMemory>
-    ensures { IfOk result (λ x. (x.0 ≡ converted left.now a) × (x.1 ≡ converted right.now b)) }
+    ensures { IfOk result (λ x. (x.0 ≡ converted left a) × (x.1 ≡ converted right b)) }
 {
-    match converted(alloc, left, a) {
-        Ok(a) => both(a, converted(alloc, right, b)),
+    match converted_to(alloc, left, a) {
+        Ok(a) => both(a, converted_to(alloc, right, b)),
         Err(fault) => {
-            b.let_go();
+            (right, b).let_go();
             Err(fault)
         }
     }

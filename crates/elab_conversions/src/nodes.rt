@@ -6,7 +6,7 @@ ghost use Rattle.elab_meaning.specs.Nodes.{assign_node, assigned_by, binary_node
 ghost use Rattle.elab_meaning.specs.Operators.{modifiable_place, wanted};
 ghost use Rattle.elab_conversions.specs.Answers.{Gives};
 
-use crate::added::{both_converted, converted};
+use crate::added::{both_converted, converted_to};
 use crate::judging::judge;
 use crate::operands::{can_be_cast, crosses, has_size};
 use crate::operations::{assignment, joined, operation};
@@ -19,7 +19,7 @@ use elab_meaning::{Operation, Single};
 use fc_base::{Fault, Place, Rule};
 use std::alloc::Global;
 use tree_drops::{
-    both, typed_assign, typed_binary, typed_cast, typed_cond, typed_index, typed_postfix,
+    LetGo, both, typed_assign, typed_binary, typed_cast, typed_cond, typed_index, typed_postfix,
     typed_prefix, typed_sizeof,
 };
 
@@ -81,13 +81,21 @@ impl Operators<'_> {
     ) -> Result<TypedExpr, Fault>
         ensures { Gives result (computed_by operation op a b self.now.at) }
     {
+        let Operation {
+            incomplete,
+            refused,
+            left,
+            right,
+            result: gives,
+        } = operation;
         let checks = [
-            (Rule::IncompleteType, operation.incomplete),
-            (Rule::BadOperands, operation.refused),
+            (Rule::IncompleteType, incomplete),
+            (Rule::BadOperands, refused),
         ];
-        let ((a, b), _) = both((a, b), judge(self.at, &checks))?;
-        let (a, b) = both_converted(self.alloc, &operation.left, a, &operation.right, b)?;
-        Ok(typed_binary(self.alloc, op, a, b, operation.result, self.at)?)
+        let held = ((left, a), (right, b), gives);
+        let (((left, a), (right, b), gives), _) = both(held, judge(self.at, &checks))?;
+        let (gives, (a, b)) = both(gives, both_converted(self.alloc, left, a, right, b))?;
+        Ok(typed_binary(self.alloc, op, a, b, gives, self.at)?)
     }
 
     /// An assignment.
@@ -113,9 +121,17 @@ impl Operators<'_> {
             (Rule::BadOperands, is_refused(&operation, &to)),
             (Rule::NotLvalue, !is_modifiable(&to)),
         ];
-        let ((to, from), _) = both((to, from), judge(self.at, &checks))?;
-        let (to, from) = both(to, converted(self.alloc, &operation.right, from))?;
-        Ok(typed_assign(self.alloc, op, to, from, operation.result, self.at)?)
+        let Operation {
+            left,
+            right,
+            result: gives,
+            ..
+        } = operation;
+        left.let_go();
+        let held = ((to, from), right, gives);
+        let (((to, from), right, gives), _) = both(held, judge(self.at, &checks))?;
+        let ((to, gives), from) = both((to, gives), converted_to(self.alloc, right, from))?;
+        Ok(typed_assign(self.alloc, op, to, from, gives, self.at)?)
     }
 
     /// A conditional expression.
@@ -141,12 +157,19 @@ impl Operators<'_> {
     ) -> Result<TypedExpr, Fault>
         ensures { Gives result (chosen_by operation test yes no self.now.at) }
     {
-        let is_refused = !is_scalar(&test.ctype) || operation.refused;
-        let checks = [(Rule::BadOperands, is_refused)];
-        let ((test, yes, no), _) = both((test, yes, no), judge(self.at, &checks))?;
-        let arms = both_converted(self.alloc, &operation.left, yes, &operation.right, no);
-        let (test, (yes, no)) = both(test, arms)?;
-        Ok(typed_cond(self.alloc, test, yes, no, operation.result, self.at)?)
+        let Operation {
+            refused,
+            left,
+            right,
+            result: gives,
+            ..
+        } = operation;
+        let checks = [(Rule::BadOperands, !is_scalar(&test.ctype) || refused)];
+        let held = ((test, gives), (left, yes), (right, no));
+        let (((test, gives), (left, yes), (right, no)), _) = both(held, judge(self.at, &checks))?;
+        let arms = both_converted(self.alloc, left, yes, right, no);
+        let ((test, gives), (yes, no)) = both((test, gives), arms)?;
+        Ok(typed_cond(self.alloc, test, yes, no, gives, self.at)?)
     }
 
     /// A cast that is written.
@@ -157,7 +180,7 @@ impl Operators<'_> {
             (Rule::BadOperands, !can_be_cast(&of.ctype, &to)),
             (Rule::IntPointerCast, crosses(self.tags, &of, &to)),
         ];
-        let (of, _) = both(of, judge(self.at, &checks))?;
+        let ((of, to), _) = both((of, to), judge(self.at, &checks))?;
         Ok(typed_cast(self.alloc, false, of, to, self.at)?)
     }
 
@@ -173,14 +196,20 @@ impl Operators<'_> {
     fn prefixed(&self, single: Single, op: PrefixOp, of: TypedExpr) -> Result<TypedExpr, Fault>
         ensures { Gives result (prefixed_by single op of self.now.at) }
     {
+        let Single {
+            incomplete,
+            refused,
+            operand,
+            result: gives,
+        } = single;
         let checks = [
-            (Rule::IncompleteType, single.incomplete),
-            (Rule::BadOperands, single.refused),
+            (Rule::IncompleteType, incomplete),
+            (Rule::BadOperands, refused),
             (Rule::NotLvalue, !is_wanted(op, &of)),
         ];
-        let (of, _) = both(of, judge(self.at, &checks))?;
-        let of = converted(self.alloc, &single.operand, of)?;
-        Ok(typed_prefix(self.alloc, op, of, single.result, self.at)?)
+        let ((of, operand, gives), _) = both((of, operand, gives), judge(self.at, &checks))?;
+        let (gives, of) = both(gives, converted_to(self.alloc, operand, of))?;
+        Ok(typed_prefix(self.alloc, op, of, gives, self.at)?)
     }
 
     /// An operator behind its operand.
@@ -195,13 +224,20 @@ impl Operators<'_> {
     fn stepped(&self, single: Single, op: PostfixOp, of: TypedExpr) -> Result<TypedExpr, Fault>
         ensures { Gives result (stepped_by single op of self.now.at) }
     {
+        let Single {
+            incomplete,
+            refused,
+            operand,
+            result: gives,
+        } = single;
+        operand.let_go();
         let checks = [
-            (Rule::IncompleteType, single.incomplete),
-            (Rule::BadOperands, single.refused),
+            (Rule::IncompleteType, incomplete),
+            (Rule::BadOperands, refused),
             (Rule::NotLvalue, !is_modifiable(&of)),
         ];
-        let (of, _) = both(of, judge(self.at, &checks))?;
-        Ok(typed_postfix(self.alloc, op, of, single.result, self.at)?)
+        let ((of, gives), _) = both((of, gives), judge(self.at, &checks))?;
+        Ok(typed_postfix(self.alloc, op, of, gives, self.at)?)
     }
 
     /// The size of an expression's type, which is neither converted nor evaluated.
@@ -217,10 +253,8 @@ impl Operators<'_> {
     pub fn size_of_type(&self, of: CType) -> Result<TypedExpr, Fault>
         ensures { Gives result (sizeof_type_node self.now.tags.now of self.now.at) }
     {
-        judge(
-            self.at,
-            &[(Rule::IncompleteType, !has_size(self.tags, &of))],
-        )?;
+        let checks = [(Rule::IncompleteType, !has_size(self.tags, &of))];
+        let (of, _) = both(of, judge(self.at, &checks))?;
         Ok(TypedExpr {
             kind: TypedKind::SizeofType(of),
             ctype: size_type(),
@@ -240,11 +274,18 @@ impl Operators<'_> {
     fn indexed(&self, single: Single, a: TypedExpr, b: TypedExpr) -> Result<TypedExpr, Fault>
         ensures { Gives result (indexed_by single a b self.now.at) }
     {
+        let Single {
+            incomplete,
+            refused,
+            operand,
+            result: gives,
+        } = single;
+        operand.let_go();
         let checks = [
-            (Rule::IncompleteType, single.incomplete),
-            (Rule::BadOperands, single.refused),
+            (Rule::IncompleteType, incomplete),
+            (Rule::BadOperands, refused),
         ];
-        let ((a, b), _) = both((a, b), judge(self.at, &checks))?;
-        Ok(typed_index(self.alloc, a, b, single.result, self.at)?)
+        let ((a, b, gives), _) = both((a, b, gives), judge(self.at, &checks))?;
+        Ok(typed_index(self.alloc, a, b, gives, self.at)?)
     }
 }

@@ -11,6 +11,7 @@ use c_layout::{CType, Tags, agreeing_pointers, is_integer, is_scalar, is_void, p
 use c_tree::{AssignOp, BinaryOp, Rank, TypedExpr, common, ranked};
 use elab_meaning::Operation;
 use fc_base::NoMemory;
+use tree_drops::{LetGo, both};
 
 pub fn int() -> CType
     ensures { result ≡ int }
@@ -222,15 +223,19 @@ fn kept(to: &CType, operation: Operation) -> Result<Operation, NoMemory>
     let Operation {
         incomplete,
         refused,
+        left,
         right,
-        ..
+        result: gives,
     } = operation;
+    (left, gives).let_go();
+    let (right, left) = both(right, to.share())?;
+    let ((right, left), gives) = both((right, left), to.share())?;
     Ok(Operation {
         incomplete,
         refused,
-        left: to.share()?,
+        left,
         right,
-        result: to.share()?,
+        result: gives,
     })
 }
 

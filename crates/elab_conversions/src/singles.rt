@@ -15,6 +15,7 @@ use elab_meaning::{Operation, Single};
 use fc_base::NoMemory;
 use shared_values::Shared;
 use std::alloc::Global;
+use tree_drops::{LetGo, both};
 
 /// What a pointer points to, void for another type.
 fn target(ctype: &CType) -> Result<CType, NoMemory>
@@ -106,14 +107,18 @@ fn pointer_sum(sum: Operation) -> Result<Single, NoMemory>
     let Operation {
         incomplete,
         refused,
+        left,
+        right,
         result: pointer,
-        ..
     } = sum;
-    let element = target(&pointer)?;
+    (left, right).let_go();
+    let refused = refused || !is_pointer(&pointer);
+    let element = target(&pointer);
+    let (operand, element) = both(pointer, element)?;
     Ok(Single {
         incomplete,
-        refused: refused || !is_pointer(&pointer),
-        operand: pointer,
+        refused,
+        operand,
         result: element,
     })
 }
