@@ -1,3 +1,4 @@
 pub mod Ended
+pub mod Meets
 pub mod Printed
 mod Tables

@@ -2,6 +2,7 @@
 use Rattle.std.proofs.Common.{◌≡◌, ◌≢◌, ℕ, zero, suc, ◌+◌, ◌-◌, ◌<◌, ◌≤◌, Bool, true, false, not, ◌||◌, ◌&&◌, ◌⊎◌, inl, inr, eqb, leb, ltb, List, [], ◌∷◌, length, map, get_or, take, drop, ⊎_elim, Result, Ok, Err, refl, sym, ap, ◌∙◌, subst, arith}
 use Rattle.std.specs.Prelude.{if◌then◌else◌, ℤ, pos, negsuc, ◌+ℤ◌}
 use Rattle.std.specs.List.{list_any}
+use Rattle.std.proofs.Math.Bool.{and-false}
 use Rattle.std.proofs.Math.Nat.{add-zero}
 use Rattle.std.proofs.lemmas.Bool.{not-false, ltb-false, leb-true, le-leb, eqb-true, eq-eqb, cases_eq}
 use Rattle.std.proofs.lemmas.Int.{ints}
@@ -14,6 +15,7 @@ use Rattle.library_meaning.specs.Rows.{Stretch, stretch, Touched, Stored, These,
 use Rattle.library_meaning.specs.Scan.{at_limit, scan, scan_both}
 use Rattle.library_meaning.specs.declared.stops.HostStop.{HostStop}
 use Rattle.library_meaning.specs.declared.stops.HostStop.TheVariants as host
+use Rattle.library_meaning.proofs.Meets.{no_meet, meet_none}
 use Rattle.object_meaning.specs.Cells.{byte_at, bytes_in}
 use Rattle.object_meaning.specs.Memory.{IsCell}
 use Rattle.object_meaning.specs.Objects.{Object, object_at, is_live, size_at, cells_behind, put_cells}
@@ -347,27 +349,6 @@ module _ (at : ℕ → ℕ) (objs : List Object) (m : List ℕ) (k : Memories at
               (λ q lt. match_at _ _ c.match q (let n = c.long in omega (arith, n))) all.0,
         ))
 
-    and_false : (t : Bool) → t && false ≡ false
-    and_false true = refl
-    and_false false = refl
-
-    -- stretches that don't meet
-    no_meet : (a n b l : ℕ) → (n ≡ 0) ⊎ ((l ≡ 0) ⊎ ((a + n ≤ b) ⊎ (b + l ≤ a))) → meets a n b l ≡ false
-    no_meet a n b l (inl e) = rw (eq-eqb n 0 e) refl
-    no_meet a n b l (inr (inl e)) = rw (eq-eqb l 0 e) (and_false _)
-    no_meet a n b l (inr (inr (inl h))) = rw (le-leb _ _ h, and_false (not (eqb l 0))) (and_false _)
-    no_meet a n b l (inr (inr (inr h))) = rw (le-leb _ _ h, and_false (not (leb (a + n) b)), and_false (not (eqb l 0))) (and_false _)
-
-    meet_none : (a n b l : ℕ) → meets a n b l ≡ false → (n ≡ 0) ⊎ ((l ≡ 0) ⊎ ((a + n ≤ b) ⊎ (b + l ≤ a)))
-    meet_none a n b l h = go (eqb n 0) (eqb l 0) (leb (a + n) b) (leb (b + l) a) refl refl refl refl h
-      where
-        go : (t u v w : Bool) → eqb n 0 ≡ t → eqb l 0 ≡ u → leb (a + n) b ≡ v → leb (b + l) a ≡ w → not t && (not u && (not v && not w)) ≡ false → (n ≡ 0) ⊎ ((l ≡ 0) ⊎ ((a + n ≤ b) ⊎ (b + l ≤ a)))
-        go true u v w et eu ev ew h = inl (eqb-true n 0 et)
-        go false true v w et eu ev ew h = inr (inl (eqb-true l 0 eu))
-        go false false true w et eu ev ew h = inr (inr (inl (leb-true _ _ ev)))
-        go false false false true et eu ev ew h = inr (inr (inr (leb-true _ _ ew)))
-        go false false false false et eu ev ew h = absurd (cc)
-
     apart_at : (u v : PtrValue) (r q : ℕ) (to s : Stretch) → PlaceIs at (is_live objs) u r → PlaceIs at (is_live objs) v q → is_dead objs u ≡ false → is_null u && ltb 0 to.count ≡ false → is_out objs to.offset to.count u ≡ false → is_dead objs v ≡ false → is_null v && ltb 0 s.count ≡ false → is_out objs s.offset s.count v ≡ false → overlap u to v s ≡ false → meets (r + to.offset) to.count (q + s.offset) s.count ≡ false
     apart_at (Null claim) v r q to s is it du zu ou dv zv ov far = no_meet (r + to.offset) to.count (q + s.offset) s.count (inl (let e = ltb-false 0 to.count zu in omega (arith, e)))
     apart_at (At p) (Null claim) r q to s is it du zu ou dv zv ov far = no_meet (r + to.offset) to.count (q + s.offset) s.count (inr (inl (let e = ltb-false 0 s.count zv in omega (arith, e))))
@@ -405,4 +386,4 @@ module _ (at : ℕ → ℕ) (objs : List Object) (m : List ℕ) (k : Memories at
     pub apart_follows : (strict : Bool) (to : Stretch) (ss : List Stretch) → Does Stay (tested (apart_tests args objs to ss) (Ok objs)) (valid_then (not (strict && meets_any numbers to ss)) m)
     apart_follows strict to ss = does_tested Stay (apart_tests args objs to ss) (Ok objs) _ (λ a.
         let all = passes (map (reach_of args) (writing to ∷ map reading ss)) a.0 a.1.0 a.1.1.0 in
-        rw (apart_each to ss all.0 all.1 a.1.1.1.1.0, and_false strict) (m, refl, (refl, refl)))
+        rw (apart_each to ss all.0 all.1 a.1.1.1.1.0, and-false strict) (m, refl, (refl, refl)))
