@@ -2,7 +2,7 @@
 use Rattle.std.proofs.Common.{◌≡◌, ◌≢◌, ℕ, zero, suc, ◌+◌, ◌-◌, ◌<◌, ◌≤◌, Bool, true, false, ◌&&◌, eqb, leb, List, [], ◌∷◌, ◌++◌, length, get_or, take, drop, None, Some, Result, Ok, Err, min, refl, sym, ap, ◌∙◌, subst, arith}
 use Rattle.std.specs.Prelude.{slice_range}
 use Rattle.std.proofs.lemmas.Bool.{ne_eqb, eqb-true, leb-true}
-use Rattle.std.proofs.lemmas.List.{get_or-take, take_more, length-take, length-drop}
+use Rattle.std.proofs.lemmas.List.{get_or-take, take_more, take-take, length-take, length-drop}
 use Rattle.memchr.specs.Find.{IsFirstByte, Nowhere, Passes, is_byte}
 use Rattle.library_meaning.specs.Scan.{Found, scan, after_byte, and_then}
 use Rattle.library_meaning.specs.OnBytes.{bytes_from, byte_look}
@@ -59,6 +59,33 @@ valid_low a h = and_left (leb first_valid a) (leb (a + 1) memory_size) h
 
 pub valid_high : (a : ℕ) → are_valid a 1 ≡ true → a + 1 ≤ memory_size
 valid_high a h = leb-true _ _ (and_right (leb first_valid a) (leb (a + 1) memory_size) h)
+
+-- the first byte of a list, among so many of it
+module _ (stops : ℕ → Bool) (xs : List ℕ) (most : ℕ) (room : most ≤ length xs) where
+  front_long : length (take most xs) ≡ most
+  front_long = omega (arith, length-take most xs)
+
+  passes_on : (j : ℕ) → j < most → Passes stops (take most xs) j → Passes stops xs j
+  passes_on j lt t = rw (sym (get_or-take most xs j 0 lt)) t
+
+  pub front_first : (k : ℕ) → k < most → IsFirstByte stops xs (Some k) → IsFirstByte stops (take most xs) (Some k)
+  front_first k lt first = (
+    record { low = first.0.low; high = omega (arith, front_long); before = λ j from to t. first.0.before j from to (passes_on j (omega arith) t) },
+    rw (get_or-take most xs k 0 lt) first.1,
+  )
+
+  pub front_past : (k : ℕ) → most ≤ k → IsFirstByte stops xs (Some k) → IsFirstByte stops (take most xs) None
+  front_past k le first = λ j from to t. first.0.before j from (omega (arith, front_long)) (passes_on j (omega (arith, front_long)) t)
+
+  pub front_none : IsFirstByte stops xs None → IsFirstByte stops (take most xs) None
+  front_none first = λ j from to t. first j from (omega (arith, front_long)) (passes_on j (omega (arith, front_long)) t)
+
+-- the front of a stretch of memory
+pub front_of : (m : List ℕ) (a most reach : ℕ) → most ≤ reach → take most (slice_range m a (a + reach)) ≡ slice_range m a (a + most)
+front_of m a most reach le =
+    let e : a + reach - a ≡ reach = omega arith in
+    let f : a + most - a ≡ most = omega arith in
+    ap (λ n. take most (take n (drop a m))) e ∙ take-take most reach (drop a m) le ∙ ap (λ n. take n (drop a m)) (sym f)
 
 module _ (stops : ℕ → Bool) (m : List ℕ) (a limit most : ℕ) (size : length m ≡ memory_size) (valid : are_valid a 1 ≡ true) (some : (limit ≡ 0) → ⊥) (is : most ≡ min limit (memory_size - a)) where
   -- the scan of the machine's memory

@@ -1,3 +1,4 @@
+pub mod Lanes
 pub mod Characters
 pub mod Compares
 pub mod Shapes

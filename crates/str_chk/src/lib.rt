@@ -8,12 +8,12 @@ ghost use Rattle.library_meaning.specs.OnBytes.{on_bytes, Does, Reads, quiet};
 ghost use Rattle.library_meaning.specs.Memory.{are_valid, memory_size};
 ghost use Rattle.str_chk.specs.Pairs.{both_scan, order_found, order_or};
 
+mod blocks;
+
+use crate::blocks::{BLOCK, compare_blocks};
 use host_bytes::{MEMORY_SIZE, compare, copy, copy_and_fill, find, is_valid};
 use library_meaning::HostStop;
 use memchr::{memchr, memchr2};
-
-/// How many bytes of two texts are compared at once.
-const BLOCK: usize = 256;
 
 /// `strlen` (C11 7.24.6.3): how many bytes stand before the NUL. `BadAddress` where one of these or the NUL has no valid
 /// address.
@@ -128,6 +128,9 @@ fn compare_parts(left: &[u8], right: &[u8]) -> Option<u64>
     requires { length left.now ≡ length right.now }
     ensures { (xs ys : List ℕ) → order_found (both_scan (left.now ++ xs) (right.now ++ ys)) ≡ order_or result xs ys }
 {
+    if left.len() == BLOCK {
+        return compare_blocks(left, right);
+    }
     match memchr(0, left) {
         Some(k) => Some(compare(&left[..k + 1], &right[..k + 1])),
         None => {
