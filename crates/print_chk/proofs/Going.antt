@@ -11,7 +11,7 @@ use Rattle.print_formats.specs.declared.conversions.Directive.{Directive}
 use Rattle.print_formats.specs.declared.conversions.Directive.TheVariants as directives
 use Rattle.print_formats.specs.Formats.{directives_of, and_directive}
 use Rattle.print_texts.specs.Printing.{apart, listed, measured, shown, ordinary, ordinaries, conversion_length, conversion_reads, conversion_text}
-use Rattle.print_texts.proofs.Formats.{run_listed, conversion_listed, measured_run}
+use Rattle.print_texts.proofs.Formats.{apart_run, run_listed, conversion_listed, measured_run}
 use Rattle.print_chk.specs.Written.{Wrote, PutSoFar}
 use Rattle.print_chk.proofs.Parts.{wrote_both, wrote_first}
 
@@ -83,14 +83,10 @@ module _ (args m f : List ℕ) (at next : ℕ) (x y : StreamState) (so_far : Put
 
 -- what directives read is apart from n bytes at d
 module _ (args m : List ℕ) (d n : ℕ) where
-  pub apart_run : (xs : List ℕ) (ds : List Directive) (j : ℕ) → apart args m d n (ordinaries xs ds) j ≡ apart args m d n ds j
-  apart_run [] ds j = refl
-  apart_run (b ∷ xs) ds j = apart_run xs ds j
-
   pub apart_behind_run : (xs : List ℕ) (o rest : Option (List Directive)) (j : ℕ) → o ≡ ordinary xs rest → is_some o ≡ true → apart args m d n (listed o) j ≡ true → apart args m d n (listed rest) j ≡ true
   apart_behind_run xs o rest j e well far =
       let next = run_listed xs rest (subst (λ z. is_some z ≡ true) e well) in
-      sym (apart_run xs (listed rest) j) ∙ ap (λ ds. apart args m d n ds j) (sym next.1 ∙ ap listed (sym e)) ∙ far
+      sym (apart_run args m d n xs (listed rest) j) ∙ ap (λ ds. apart args m d n ds j) (sym next.1 ∙ ap listed (sym e)) ∙ far
 
   pub apart_behind_conversion : (c : Conversion) (o rest : Option (List Directive)) (j : ℕ) → o ≡ and_directive (directives.Converted c) rest → is_some o ≡ true → apart args m d n (listed o) j ≡ true
       → (meets d n (get_or args j 0) (conversion_reads m c.specifier (get_or args j 0)) ≡ false) × (apart args m d n (listed rest) (j + 1) ≡ true)

@@ -40,9 +40,10 @@ pub record IsFormat (args m : List ℕ) (f : Format) : Type 0 where
   pub takes : accepted (length args) 0 (directives_of (format_bytes m f)) ≡ true
   pub measures : measured args m (format_directives m f) 0 0 ≡ Ok f.length
 
-abbrev pub IsReadable : List ℕ → List ℕ → ℕ → Result Format HostStop → Type 0
-IsReadable args m a (Ok f) = (f.at ≡ a) × IsFormat args m f
-IsReadable args m a (Err stop) = text_length args m a ≡ Err stop
+-- the format at an address, whose text may be stored in n bytes at d
+abbrev pub IsReadable : List ℕ → List ℕ → ℕ → ℕ → ℕ → Result Format HostStop → Type 0
+IsReadable args m d n a (Ok f) = (f.at ≡ a) × IsFormat args m f × (f.clear ≡ apart args m d n (format_directives m f) 0)
+IsReadable args m d n a (Err stop) = text_length args m a ≡ Err stop
 
 -- n bytes at d may be stored by a print: each may be touched, and they meet nothing that it reads
 abbrev pub is_free : List ℕ → List ℕ → ℕ → ℕ → Format → Bool

@@ -2,31 +2,37 @@
 
 ghost use Rattle.std.specs.Prelude.{◌≡◌, ◌≤◌, true, length, is_some};
 ghost use Rattle.library_meaning.specs.Memory.{are_valid, memory_size};
-ghost use Rattle.library_meaning.specs.OnBytes.{meets};
 ghost use Rattle.print_formats.specs.Formats.{directives_of};
 ghost use Rattle.print_texts.specs.Parts.{PartAt};
-ghost use Rattle.print_texts.specs.Printing.{apart, conversion_reads, listed};
-ghost use Rattle.print_chk.specs.Readable.{IsFormat, IsReadable, cells_of, format_bytes, is_free};
+ghost use Rattle.print_texts.specs.Printing.{apart, listed};
+ghost use Rattle.print_chk.specs.Readable.{IsFormat, IsReadable, format_bytes, format_directives, is_free};
 
 use crate::pieces::bytes;
 use host_bytes::{Text, find, is_valid};
 use library_meaning::HostStop;
-use print_formats::Specifier;
-use print_texts::{Part, accepts, argument, measure, most, next_part};
+use print_texts::{Part, accepts, argument, cells, measure, meets, next_part, reads};
 
-/// A format in memory with arguments that it takes: where it stands, its bytes up to the NUL, and how long its text is.
+/// A format in memory with arguments that it takes: where it stands, its bytes up to the NUL, how long its text is, and whether its
+/// strings are known to be apart from where that may be stored.
 #[derive(Clone, Copy)]
 pub struct Format {
     pub at: u64,
     pub text: Text,
     pub length: u64,
+    pub clear: bool,
 }
 
 /// Reads the format at an address: `BadFormat` where its bytes are none or have more conversions than arguments, `BadAddress` where a
-/// byte that must be read has no valid address.
-pub fn read_format(mem: &[u8], at: u64, args: &[u64]) -> Result<Format, HostStop>
+/// byte that must be read has no valid address. The text may be stored in `room` bytes at `to`.
+pub fn read_format(
+    mem: &[u8],
+    at: u64,
+    args: &[u64],
+    to: u64,
+    room: u64,
+) -> Result<Format, HostStop>
     requires { length mem.now ≡ memory_size }
-    ensures { IsReadable args.now mem.now at result }
+    ensures { IsReadable args.now mem.now to room at result }
 {
     let text = match find(mem, at, u64::MAX, 0) {
         Ok(text) => text,
@@ -36,8 +42,13 @@ pub fn read_format(mem: &[u8], at: u64, args: &[u64]) -> Result<Format, HostStop
     if !accepts(format, args.len()) {
         return Err(HostStop::BadFormat);
     }
-    match measure(mem, format, args) {
-        Ok(length) => Ok(Format { at, text, length }),
+    match measure(mem, format, args, to, room) {
+        Ok(measured) => Ok(Format {
+            at,
+            text,
+            length: measured.length,
+            clear: measured.clear,
+        }),
         Err(stop) => Err(stop),
     }
 }
@@ -50,39 +61,6 @@ pub fn part_at(mem: &[u8], format: Format, at: usize) -> Part
     ensures { PartAt (format_bytes mem.now format) at result }
 {
     next_part(bytes(mem, format.at, format.text.len), at)
-}
-
-/// How many bytes a scan has read, with the one that stopped it.
-fn cells(text: Text) -> u64
-    requires { text.len ≤ memory_size }
-    ensures { result ≡ cells_of text }
-{
-    if text.ended { text.len + 1 } else { text.len }
-}
-
-/// Whether two stretches of memory have a byte in common.
-fn meets(first: u64, count: u64, second: u64, other: u64) -> bool
-    ensures { result ≡ meets first count second other }
-{
-    count != 0
-        && other != 0
-        && second.saturating_sub(first) < count
-        && first.saturating_sub(second) < other
-}
-
-/// How many bytes of memory a conversion reads of its argument.
-fn reads(mem: &[u8], specifier: Specifier, value: u64) -> u64
-    requires { length mem.now ≡ memory_size }
-    ensures { result ≡ conversion_reads mem.now specifier value }
-{
-    match specifier {
-        Specifier::Integer { numeral: _, of: _ } => 0,
-        Specifier::Character => 0,
-        Specifier::Text { precision } => match find(mem, value, most(precision), 0) {
-            Ok(text) => cells(text),
-            Err(_) => 0,
-        },
-    }
 }
 
 /// Whether what the conversions of a format read is apart from so many bytes at an address.
@@ -111,16 +89,30 @@ fn is_apart(mem: &[u8], format: &[u8], args: &[u64], to: u64, count: u64) -> boo
     }
 }
 
+/// Whether the strings of a format are apart from so many bytes at an address, some of those where its text may be stored.
+fn is_clear(mem: &[u8], to: u64, count: u64, format: Format, args: &[u64]) -> bool
+    requires memory { length mem.now ≡ memory_size }
+    requires is { IsFormat args.now mem.now format }
+    requires known { format.clear ≡ true → apart args.now mem.now to count (format_directives mem.now format) 0 ≡ true }
+    ensures { result ≡ apart args.now mem.now to count (format_directives mem.now format) 0 }
+{
+    if format.clear {
+        return true;
+    }
+    is_apart(mem, bytes(mem, format.at, format.text.len), args, to, count)
+}
+
 /// Whether a print may store so many bytes at an address: all may be touched, and none is one that it reads.
 pub fn is_free(mem: &[u8], to: u64, count: u64, format: Format, args: &[u64]) -> bool
     requires memory { length mem.now ≡ memory_size }
     requires is { IsFormat args.now mem.now format }
+    requires known { format.clear ≡ true → apart args.now mem.now to count (format_directives mem.now format) 0 ≡ true }
     ensures { result ≡ is_free args.now mem.now to count format }
 {
     if meets(to, count, format.at, cells(format.text)) {
         return false;
     }
-    if !is_apart(mem, bytes(mem, format.at, format.text.len), args, to, count) {
+    if !is_clear(mem, to, count, format, args) {
         return false;
     }
     is_valid(to, count)

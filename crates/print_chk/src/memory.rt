@@ -5,7 +5,8 @@ ghost use Rattle.library_meaning.specs.Rows.{run};
 ghost use Rattle.library_meaning.specs.Prints as prints;
 ghost use Rattle.library_meaning.specs.OnBytes.{Does, on_bytes, quiet};
 ghost use Rattle.library_meaning.specs.Memory.{memory_size};
-ghost use Rattle.print_chk.specs.Readable.{IsFormat};
+ghost use Rattle.print_texts.specs.Printing.{apart};
+ghost use Rattle.print_chk.specs.Readable.{IsFormat, format_directives};
 ghost use Rattle.print_chk.specs.Stored.{Puts};
 
 use crate::formats::{Format, is_free, read_format};
@@ -26,6 +27,7 @@ fn put_text(
     requires some { 0 < count }
     requires whole { count ≤ format.length + 1 }
     requires is { IsFormat args.now mem.old format }
+    requires known { format.clear ≡ true → apart args.now mem.old to count (format_directives mem.old format) 0 ≡ true }
     ensures { Puts args.now mem.old to count format result mem.new }
 {
     if !is_free(mem, to, count, format, args) {
@@ -59,7 +61,7 @@ fn print_whole(
     ensures { Does (d ∷ format ∷ args.now)
         (run (on_bytes (d ∷ format ∷ args.now)) (prints.sprintf (length args.now) size) mem.old quiet) mem.old mem.new result }
 {
-    let format = match read_format(mem, format, args) {
+    let format = match read_format(mem, format, args, d, size) {
         Ok(format) => format,
         Err(stop) => return Err(stop),
     };
@@ -85,7 +87,7 @@ fn print_bounded(
     if n > size {
         return Err(HostStop::Overflow);
     }
-    let format = match read_format(mem, format, args) {
+    let format = match read_format(mem, format, args, d, n) {
         Ok(format) => format,
         Err(stop) => return Err(stop),
     };

@@ -171,7 +171,7 @@ pub fn print_out<S: Sink>(
         (stream (S.written sink.old) (S.count sink.old)) (stream (S.written sink.new) (S.count sink.new)) }
     ensures grew { S.count sink.old ≤ S.count sink.new }
 {
-    let format = match read_format(mem, format, args) {
+    let format = match read_format(mem, format, args, 0, 0) {
         Ok(format) => format,
         Err(stop) => return Err(stop),
     };

@@ -121,6 +121,7 @@ fn ended_without_zero(options: Options, specifier: Specifier) -> FormatStep
     }
 }
 
+#[inline(always)]
 fn behind_width(options: Options, byte: u8) -> FormatStep
     ensures { result ≡ behind_width options byte }
 {
@@ -142,6 +143,7 @@ fn behind_width(options: Options, byte: u8) -> FormatStep
     }
 }
 
+#[inline(always)]
 fn in_flags(options: Options, byte: u8) -> FormatStep
     ensures { result ≡ in_flags options byte }
 {
@@ -174,6 +176,7 @@ fn in_flags(options: Options, byte: u8) -> FormatStep
     in_width(options, byte)
 }
 
+#[inline(always)]
 fn in_width(options: Options, byte: u8) -> FormatStep
     ensures { result ≡ in_width options byte }
 {
@@ -228,6 +231,7 @@ fn in_length(options: Options, modifier: LengthModifier, byte: u8) -> FormatStep
 }
 
 /// What one more byte of a format does.
+#[inline(always)]
 pub fn advance(state: FormatState, byte: u8) -> FormatStep
     ensures { result ≡ step state byte }
 {

@@ -15,6 +15,7 @@ pub enum Next {
 }
 
 /// The directive at a place of a format.
+#[inline(always)]
 pub fn next_directive(format: &[u8], at: usize) -> Next
     requires { at ≤ length format.now }
     ensures { FoundAt format.now at result }

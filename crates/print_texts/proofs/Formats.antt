@@ -9,7 +9,7 @@ use Rattle.print_formats.specs.declared.conversions.Directive.TheVariants as dir
 use Rattle.print_formats.specs.declared.automaton.FormatState.TheVariants as states
 use Rattle.print_formats.specs.Formats.{directives_of, and_directive}
 use Rattle.print_formats.proofs.Bytes.{ends}
-use Rattle.print_texts.specs.Printing.{accepted, listed, measured, ordinaries, ordinary}
+use Rattle.print_texts.specs.Printing.{accepted, apart, listed, measured, ordinaries, ordinary}
 
 -- one more byte that is printed as it is
 ordinary_more : (xs : List ℕ) (b : ℕ) (o : Option (List Directive)) → ordinary (xs ++ b ∷ []) o ≡ ordinary xs (and_directive (directives.Ordinary b) o)
@@ -73,3 +73,8 @@ conversion_listed c (Some ds) well = (refl, refl)
 pub measured_run : (args m xs : List ℕ) (ds : List Directive) (j n : ℕ) → measured args m (ordinaries xs ds) j n ≡ measured args m ds j (n + length xs)
 measured_run args m [] ds j n = ap (measured args m ds j) (omega arith)
 measured_run args m (b ∷ xs) ds j n = measured_run args m xs ds j (n + 1) ∙ ap (measured args m ds j) (omega arith)
+
+-- what directives read, behind bytes that are printed as they are
+pub apart_run : (args m : List ℕ) (d n : ℕ) (xs : List ℕ) (ds : List Directive) (j : ℕ) → apart args m d n (ordinaries xs ds) j ≡ apart args m d n ds j
+apart_run args m d n [] ds j = refl
+apart_run args m d n (b ∷ xs) ds j = apart_run args m d n xs ds j

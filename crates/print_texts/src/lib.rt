@@ -6,7 +6,9 @@ mod numbers;
 mod padding;
 mod parts;
 
-pub use lengths::{accepts, argument, conversion_length, measure, most};
+pub use lengths::{
+    Measured, accepts, argument, cells, conversion_length, measure, meets, most, reads,
+};
 pub use numbers::{Number, ROOM, write_number};
 pub use padding::{Padding, padding_of};
 pub use parts::{Part, next_part};

@@ -39,6 +39,7 @@ fn run_end(format: &[u8], at: usize) -> usize
 }
 
 /// What stands at a place of a format.
+#[inline(always)]
 pub fn next_part(format: &[u8], at: usize) -> Part
     requires { at ≤ length format.now }
     ensures { PartAt format.now at result }

@@ -1,8 +1,7 @@
 use Rattle.std.proofs.Common.{◌≡◌, ◌-◌, take, drop, is_some, true, sym, ap, ◌∙◌, subst, arith}
 use Rattle.print_formats.specs.Formats.{directives_of}
 use Rattle.print_texts.specs.Printing.{apart, listed}
-use Rattle.print_texts.proofs.Formats.{run_listed}
-use Rattle.print_chk.proofs.Going.{apart_run}
+use Rattle.print_texts.proofs.Formats.{apart_run, run_listed}
 use Rattle.print_chk.proofs.formats.is_apart.Goals as goal
 
 pub loop-behind-preserved-in-Run : goal.loop-behind-preserved-in-Run

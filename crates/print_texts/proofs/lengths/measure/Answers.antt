@@ -1,8 +1,8 @@
-use Rattle.std.proofs.Common.{◌≡◌, ◌+◌, ◌-◌, length, take, drop, is_some, true, sym, ap, ◌∙◌, subst, arith}
+use Rattle.std.proofs.Common.{◌≡◌, ◌&&◌, ◌+◌, ◌-◌, length, take, drop, is_some, true, sym, ap, ◌∙◌, subst, arith}
 use Rattle.std.proofs.lemmas.List.{length-take, length-drop}
 use Rattle.print_formats.specs.Formats.{directives_of}
-use Rattle.print_texts.specs.Printing.{listed, measured}
-use Rattle.print_texts.proofs.Formats.{measured_run, run_listed}
+use Rattle.print_texts.specs.Printing.{apart, listed, measured}
+use Rattle.print_texts.proofs.Formats.{apart_run, measured_run, run_listed}
 use Rattle.print_texts.proofs.lengths.measure.Goals as goal
 
 pub loop-from-preserved-in-Run : goal.loop-from-preserved-in-Run
@@ -27,4 +27,7 @@ loop-from-preserved-in-Run c =
           ∙ sym (measured_run c.args.args.now c.args.mem.now xs (listed o) c.loop-from.next c.loop-from.total)
           ∙ ap (λ ds. measured c.args.args.now c.args.mem.now ds c.loop-from.next c.loop-from.total) (sym next.1 ∙ ap listed (sym part.0))
           ∙ c.loop-from.invariant.is;
+      far = ap (λ t. c.loop-from.clear && t) (sym (apart_run c.args.args.now c.args.mem.now c.args.to c.args.room xs (listed o) c.loop-from.next)
+          ∙ ap (λ ds. apart c.args.args.now c.args.mem.now c.args.to c.args.room ds c.loop-from.next) (sym next.1 ∙ ap listed (sym part.0)))
+          ∙ c.loop-from.invariant.far;
     }
