@@ -1,0 +1,5 @@
+mod Ends
+mod Keeps
+mod Steady
+mod Trees
+mod Weights
