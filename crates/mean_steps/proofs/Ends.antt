@@ -1,15 +1,15 @@
 -- The machine's moves, one after the other: the same answer, less work each, and so an end.
-use Rattle.std.proofs.Common.{◌≡◌, ℕ, zero, suc, ◌+◌, ◌<◌, ◌≤◌, List, [], ◌∷◌, Bool, true, false, Option, refl, sym, ap, ◌∙◌, subst, arith}
+use Rattle.std.proofs.Common.{◌≡◌, ℕ, zero, suc, ◌+◌, ◌<◌, ◌≤◌, List, [], ◌∷◌, Bool, true, false, Option, refl, ap, ◌∙◌, arith}
 use Rattle.std.specs.Prelude.{if◌then◌else◌}
 use Rattle.c_layout.specs.declared.tags.TagDef.{TagDef}
 use Rattle.fc_base.specs.declared.refusals.Place.{Place}
 use Rattle.object_meaning.specs.declared.values.Value.{Value}
 use Rattle.plain_meaning.specs.Actions.{State}
 use Rattle.plain_meaning.specs.Expressions.{Calls}
-use Rattle.mean_steps.specs.After.{Answer, answer_from, answer_at}
+use Rattle.mean_steps.specs.After.{Answer, answer_at}
 use Rattle.mean_steps.specs.Laws.{Advances, Settles}
 use Rattle.mean_steps.specs.Machine.{Pending, Signal, Control, Eval, Designate, Tell, Begin, Over, Config, Move, goes, eval, place_of, resume}
-use Rattle.mean_steps.specs.Weights.{waits_for, runs_on, is_running, one_if, stack_weight, move_weight, work, handed, advance_by, advance, moved}
+use Rattle.mean_steps.specs.Weights.{is_running, one_if, move_weight, work, advance, moved}
 use Rattle.mean_steps.proofs.Keeps.{eval_keeps, place_keeps, resume_keeps}
 use Rattle.mean_steps.proofs.Weights.{eval_less, find_less, resume_less}
 
@@ -38,7 +38,10 @@ module _ (tags : List TagDef) (call : Calls) (ends : Option Place → Value → 
   handed_advances [] signal c = record { same = λ l. refl; less = λ h. absurd (cc) }
   handed_advances (p ∷ ps) signal c = record {
     same = λ l. resume_keeps tags call ends p signal (record c { pending = ps }) l;
-    less = λ h. let w = less_by (resume tags p signal (record c { pending = ps })) _ (resume_less tags p signal (record c { pending = ps })) in omega (arith, w);
+    less = λ h.
+        let rest = record c { pending = ps } in
+        let w = less_by (resume tags p signal rest) _ (resume_less tags p signal rest) in
+        omega (arith, w);
   }
 
   advances_by : (k : Control) (c : Config) → Advances tags call ends (goes k c)
@@ -63,7 +66,8 @@ module _ (tags : List TagDef) (call : Calls) (ends : Option Place → Value → 
   over_by (suc n) m h =
       moved_over tags n m (is_running m) refl (λ runs. over_by n (advance tags m) (let g = (advances m).less runs in omega (arith, g, h)))
 
-  same_if : (t : Bool) (n : ℕ) (m : Move) (l : ℕ) → answer_at tags call ends (moved tags n (advance tags m)) l ≡ answer_at tags call ends m l
+  same_if : (t : Bool) (n : ℕ) (m : Move) (l : ℕ)
+      → answer_at tags call ends (moved tags n (advance tags m)) l ≡ answer_at tags call ends m l
       → answer_at tags call ends (if t then moved tags n (advance tags m) else m) l ≡ answer_at tags call ends m l
   same_if true n m l h = h
   same_if false n m l h = refl

@@ -1,5 +1,5 @@
 -- No move of the machine changes the answer that it is on its way to.
-use Rattle.std.proofs.Common.{◌≡◌, ℕ, List, [], ◌∷◌, ◌++◌, map, Bool, true, false, Option, Some, None, refl, sym, ap, ◌∙◌}
+use Rattle.std.proofs.Common.{◌≡◌, ℕ, List, [], ◌∷◌, ◌++◌, Bool, true, false, Option, Some, None, refl, sym, ap, ◌∙◌}
 use Rattle.std.specs.Prelude.{if◌then◌else◌, ◌&&◌}
 use Rattle.std.specs.Option.{option_map_or}
 use Rattle.c_arithmetic.specs.declared.operators.BinaryOperator.{BinaryOperator}
@@ -30,12 +30,12 @@ use Rattle.plain_meaning.specs.Actions.{State, Outcome, On, Stop, bind, Action, 
 use Rattle.plain_meaning.specs.Expressions as plain
 use Rattle.plain_meaning.specs.Expressions.{Calls, kind_value, kind_lvalue, element_of}
 use Rattle.plain_meaning.specs.Paths.{has_effects}
-use Rattle.plain_meaning.specs.Values.{uses, holds, Lvalue, InMemory, load}
+use Rattle.plain_meaning.specs.Values.{uses, Lvalue, InMemory, load}
 use Rattle.mean_steps.specs.After.{Answer, caught, hand, node, nodes, value, lvalue_of, called_with, called_behind, after_value, after_place, after_signal, answer_from, answer_at}
 use Rattle.mean_steps.specs.Machine as machine
 use Rattle.mean_steps.specs.Machine.{Pending, Indirect, IndexRight, IndexAt, Select, Convert, Discard, Right, Operate, AndRight, OrRight, Truth, Choose, Commas, AssignTo, CopyTo, CombineTo, Apply, Negate, Arguments, SizeEnd, Load, Decay, AssignFrom, CopyFrom, CombineFrom, StepOld, StepNew, AddressOf, Signal, Gives, Designates, Eval, Designate, Tell, Begin, Over, ended, begun, with_arg, with_args, with_state, Config, Move, goes, tell, designate, waits, settled, does, call_with, next_arg, outermost, eval_kind, place_kind, eval, place_of, with_value, with_place, resume, last_of, mode_in}
-use Rattle.mean_steps.specs.Operations.{indirected, convert, tested_by, element_at, operate, combine_to, old_at, new_at, step_at, size_by, uncalled}
-use Rattle.mean_steps.proofs.Steady.{IsSteady, at_left, steady_uses, steady_holds, steady_variable, steady_load, steady_library, steady_pure, steady_indirected, steady_convert, steady_tested_by, steady_negated, steady_applied, steady_assign_to, steady_element_at, steady_member_at, steady_decayed, steady_data_object, steady_loaded, steady_operate, steady_copy_to, steady_combine_to, steady_old_at, steady_new_at, steady_unknown, steady_size_by}
+use Rattle.mean_steps.specs.Operations.{tested_by, element_at, combine_to, step_at, size_by}
+use Rattle.mean_steps.proofs.Steady.{IsSteady, at_left, steady_uses, steady_holds, steady_variable, steady_load, steady_library, steady_indirected, steady_convert, steady_tested_by, steady_negated, steady_applied, steady_assign_to, steady_element_at, steady_member_at, steady_decayed, steady_data_object, steady_loaded, steady_operate, steady_copy_to, steady_combine_to, steady_old_at, steady_new_at, steady_unknown, steady_size_by}
 use Rattle.mean_steps.proofs.Trees.{layered, value_steps, lvalue_steps}
 
 module _ {A B : Type 0} where
@@ -53,7 +53,8 @@ module _ {A B C : Type 0} where
   assoc a f g i s l = bind_bind (a s l) f g i
 
 -- an argument of a size expression inside that of another
-caught_twice : (k : Option Place) (at : Place) (standing : Standing) → caught (outermost k at) standing ≡ caught k (argument_standing at standing)
+caught_twice : (k : Option Place) (at : Place) (standing : Standing)
+    → caught (outermost k at) standing ≡ caught k (argument_standing at standing)
 caught_twice None at standing = refl
 caught_twice (Some other) at (Ended end) = refl
 caught_twice (Some other) at (Undefined kind p) = refl
@@ -90,7 +91,8 @@ module _ (tags : List TagDef) (call : Calls) (ends : Option Place → Value → 
     does_then : (rest : A → Action B) (go : B → State → ℕ → Answer)
         → ((v : A) (s : State) → at (next v (with_state s c)) l ≡ hand c.catching (rest v s l) go)
         → at (does a next c) l ≡ hand c.catching (bind (a c.state l) rest) go
-    does_then rest go h = does_ends a next c l steady (λ v s l. hand c.catching (rest v s l) go) h ∙ hand_bind c.catching (a c.state l) rest go
+    does_then rest go h =
+        does_ends a next c l steady (λ v s l. hand c.catching (rest v s l) go) h ∙ hand_bind c.catching (a c.state l) rest go
 
   gives : (a : Action Value) (c : Config) (l : ℕ) → IsSteady a → at (does a tell c) l ≡ hand c.catching (a c.state l) (values c)
   gives a c l h = does_ends a tell c l h (values c) (λ v s. refl)
@@ -113,25 +115,29 @@ module _ (tags : List TagDef) (call : Calls) (ends : Option Place → Value → 
     evals e f go = hand_bind k (value tags call ends e c.state l) f go
 
     finds : {B : Type 0} (e : TypedExpr) (f : Lvalue → Action B) (go : B → State → ℕ → Answer)
-        → hand k (lvalue_of tags call ends e c.state l) (λ v s l. hand k (f v s l) go) ≡ hand k (bind (lvalue_of tags call ends e c.state l) f) go
+        → hand k (lvalue_of tags call ends e c.state l) (λ v s l. hand k (f v s l) go)
+        ≡ hand k (bind (lvalue_of tags call ends e c.state l) f) go
     finds e f go = hand_bind k (lvalue_of tags call ends e c.state l) f go
 
   -- ---- calls
 
   call_keeps : (callee : Callee) (e : TypedExpr) (c : Config) (l : ℕ)
       → at (call_with callee e c) l
-      ≡ hand c.catching (called_with tags call ends callee e c.args.row c.state l) (after_value tags call ends c.catching c.pending (ended c.args))
+      ≡ hand c.catching (called_with tags call ends callee e c.args.row c.state l)
+      (after_value tags call ends c.catching c.pending (ended c.args))
   call_keeps (Function n) e c l = does_then _ (λ done. goes (Begin n e.place)) c l (steady_uses e.place c.args.row) _ _ (λ v s. refl)
   call_keeps (Library f) e c l = gives _ (with_args (ended c.args) c) l (steady_library e.place f c.args.row)
 
   next_keeps : (callee : Callee) (es : List TypedExpr) (e : TypedExpr) (c : Config) (l : ℕ)
       → at (next_arg callee es e c) l
-      ≡ hand c.catching (called_behind tags call ends callee es e c.args.row c.state l) (after_value tags call ends c.catching c.pending (ended c.args))
+      ≡ hand c.catching (called_behind tags call ends callee es e c.args.row c.state l)
+      (after_value tags call ends c.catching c.pending (ended c.args))
   next_keeps callee [] e c l = call_keeps callee e c l
   next_keeps callee (a ∷ rest) e c l =
       evals c l a _ _
       ∙ ap (λ o. hand c.catching o (after_value tags call ends c.catching c.pending (ended c.args)))
-      (bind_bind (value tags call ends a c.state l) (λ v. plain.values (c.args.row ++ v ∷ []) (nodes tags call ends rest)) (called_with tags call ends callee e))
+      (bind_bind (value tags call ends a c.state l) (λ v. plain.values (c.args.row ++ v ∷ []) (nodes tags call ends rest))
+      (called_with tags call ends callee e))
 
   -- ---- kinds of nodes
 
@@ -157,7 +163,9 @@ module _ (tags : List TagDef) (call : Calls) (ends : Option Place → Value → 
   binary_keeps o a b e c l = by (binary_operator o)
     where
       by : (o : Option BinaryOperator) → at (option_map_or (λ by. machine.eval_then a (Right by a.ctype b e) c) o (tell Nothing c)) l
-          ≡ hand c.catching (option_map_or (λ by. plain.both tags call by (node tags call ends a) (node tags call ends b) e) o (pure Nothing) c.state l) (values c)
+          ≡ hand c.catching
+          (option_map_or (λ by. plain.both tags call by (node tags call ends a) (node tags call ends b) e) o (pure Nothing) c.state l)
+          (values c)
       by None = refl
       by (Some o) = evals c l a _ _
 
@@ -178,7 +186,9 @@ module _ (tags : List TagDef) (call : Calls) (ends : Option Place → Value → 
   steps_keep : (e of : TypedExpr) (f : Lvalue → Action (Value × Value)) (g : Value × Value → Action Value) (c : Config) (l : ℕ)
       → hand c.catching (lvalue_of tags call ends of c.state l) (λ x s l. hand c.catching (bind (f x s l) g) (values c))
       ≡ hand c.catching (bind (bind (lvalue_of tags call ends of c.state l) f) g) (values c)
-  steps_keep e of f g c l = finds c l of (λ x. f x >>= g) _ ∙ ap (λ o. hand c.catching o (values c)) (bind_bind (lvalue_of tags call ends of c.state l) f g)
+  steps_keep e of f g c l =
+      finds c l of (λ x. f x >>= g) _
+      ∙ ap (λ o. hand c.catching o (values c)) (bind_bind (lvalue_of tags call ends of c.state l) f g)
 
   -- an lvalue that is loaded once it is found
   loads_keep : (x : Action Lvalue) (e : TypedExpr) (c : Config) (l : ℕ)
@@ -191,7 +201,8 @@ module _ (tags : List TagDef) (call : Calls) (ends : Option Place → Value → 
   indirect_keeps of e c l = evals c l of _ _
 
   prefix_keeps : (o : PrefixOp) (of e : TypedExpr) (c : Config) (l : ℕ)
-      → at (machine.prefix_of tags o of e c) l ≡ hand c.catching (plain.prefix_value tags call o (node tags call ends of) e c.state l) (values c)
+      → at (machine.prefix_of tags o of e c) l
+      ≡ hand c.catching (plain.prefix_value tags call o (node tags call ends of) e c.state l) (values c)
   prefix_keeps prefix_op.Increment of e c l = steps_keep e of (step_at tags op.Add e) (λ v. pure v.1) c l
   prefix_keeps prefix_op.Decrement of e c l = steps_keep e of (step_at tags op.Subtract e) (λ v. pure v.1) c l
   prefix_keeps prefix_op.Address of e c l = finds c l of _ _
@@ -201,12 +212,14 @@ module _ (tags : List TagDef) (call : Calls) (ends : Option Place → Value → 
   prefix_keeps o of e c l = by (unary_operator o)
     where
       by : (o : Option UnaryOperator) → at (option_map_or (λ by. machine.eval_then of (Apply by e) c) o (tell Nothing c)) l
-          ≡ hand c.catching (option_map_or (λ by. plain.on_one tags call by (node tags call ends of) e) o (pure Nothing) c.state l) (values c)
+          ≡ hand c.catching (option_map_or (λ by. plain.on_one tags call by (node tags call ends of) e) o (pure Nothing) c.state l)
+          (values c)
       by None = refl
       by (Some o) = evals c l of _ _
 
   postfix_keeps : (o : PostfixOp) (of e : TypedExpr) (c : Config) (l : ℕ)
-      → at (machine.postfix_of tags o of e c) l ≡ hand c.catching (plain.postfix_value tags call o (node tags call ends of) e c.state l) (values c)
+      → at (machine.postfix_of tags o of e c) l
+      ≡ hand c.catching (plain.postfix_value tags call o (node tags call ends of) e c.state l) (values c)
   postfix_keeps postfix.Increment of e c l = steps_keep e of (step_at tags op.Add e) (λ v. pure v.0) c l
   postfix_keeps postfix.Decrement of e c l = steps_keep e of (step_at tags op.Subtract e) (λ v. pure v.0) c l
 
@@ -223,9 +236,11 @@ module _ (tags : List TagDef) (call : Calls) (ends : Option Place → Value → 
       used : Value → Value → Action Value
       used x y = uses e.place (x ∷ y ∷ []) >> element_of tags call a.ctype b.ctype e x y
 
-      behind : (x : Value) → (value tags call ends b >>= element_at tags a.ctype b.ctype e x) ≡ ((value tags call ends b >>= used x) >>= placed)
+      behind : (x : Value) → (value tags call ends b >>= element_at tags a.ctype b.ctype e x)
+          ≡ ((value tags call ends b >>= used x) >>= placed)
       behind x =
-          ap (λ g. value tags call ends b >>= g) (λ i y. assoc (uses e.place (x ∷ y ∷ [])) (λ done. element_of tags call a.ctype b.ctype e x y) placed i)
+          ap (λ g. value tags call ends b >>= g)
+          (λ i y. assoc (uses e.place (x ∷ y ∷ [])) (λ done. element_of tags call a.ctype b.ctype e x y) placed i)
           ∙ assoc (value tags call ends b) (used x) placed
 
   index_keeps : (a b e : TypedExpr) (c : Config) (l : ℕ)
@@ -235,7 +250,10 @@ module _ (tags : List TagDef) (call : Calls) (ends : Option Place → Value → 
 
   sized_keeps : (pointer : TypedExpr) (mode : Mode) (e : TypedExpr) (c : Config) (l : ℕ)
       → at (machine.sized tags pointer mode e c) l
-      ≡ hand c.catching ((if has_effects pointer then plain.unknown tags call mode e else plain.known tags call (node tags call ends pointer) mode e) c.state l) (values c)
+      ≡ hand c.catching
+      ((if has_effects pointer then plain.unknown tags call mode e else plain.known tags call (node tags call ends pointer) mode e)
+      c.state l)
+      (values c)
   sized_keeps pointer mode e c l =
       if_keeps (has_effects pointer) _ _ _ _ (values c) c.catching c.state l (gives _ c l (steady_unknown tags mode e))
       (size_keeps c.catching e.place (value tags call ends pointer c.state l) (size_by tags mode e) (values c))
@@ -319,7 +337,8 @@ module _ (tags : List TagDef) (call : Calls) (ends : Option Place → Value → 
       (λ t s. or_keeps t b e (with_state s c) l)
   value_keeps (Truth e) v c l = gives _ c l (steady_tested_by e v)
   value_keeps (Choose a b e) v c l =
-      does_then _ (λ t. goes (Eval (if t then a else b))) c l (steady_holds e.place v) _ (values c) (λ t s. test_keeps t a b (with_state s c) l)
+      does_then _ (λ t. goes (Eval (if t then a else b))) c l (steady_holds e.place v) _ (values c)
+      (λ t s. test_keeps t a b (with_state s c) l)
   value_keeps (Commas more) v c l = last_keeps more c l
   value_keeps (AssignTo x e) v c l = gives _ c l (steady_assign_to x e v)
   value_keeps (CopyTo x e) v c l = gives _ c l (steady_copy_to tags x e v)

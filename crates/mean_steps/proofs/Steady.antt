@@ -1,5 +1,5 @@
 -- Operations: none looks at the steps that are left, or takes one.
-use Rattle.std.proofs.Common.{◌≡◌, ℕ, List, [], ◌∷◌, Bool, true, false, Option, Some, None, refl, sym, ap, ◌∙◌}
+use Rattle.std.proofs.Common.{◌≡◌, ℕ, List, [], ◌∷◌, Bool, true, false, Option, Some, None, refl, ap, ◌∙◌}
 use Rattle.std.specs.Prelude.{Result, Ok, Err, ℤ, if◌then◌else◌}
 use Rattle.c_arithmetic.specs.declared.operators.BadOperation.{BadOperation}
 use Rattle.c_arithmetic.specs.declared.operators.BadOperation.TheVariants.{Division, ShiftCount}
@@ -8,7 +8,6 @@ use Rattle.c_arithmetic.specs.declared.operators.BinaryOperator.TheVariants as o
 use Rattle.c_arithmetic.specs.declared.operators.UnaryOperator.{UnaryOperator}
 use Rattle.c_layout.specs.declared.tags.TagDef.{TagDef}
 use Rattle.c_layout.specs.declared.types.CType.{CType}
-use Rattle.c_layout.specs.Types.{is_pointer}
 use Rattle.c_library.specs.declared.functions.CheckedForm.{CheckedForm}
 use Rattle.c_library.specs.declared.functions.LibFn.{LibFn}
 use Rattle.c_tree.specs.declared.typed.TypedExpr.{TypedExpr}
@@ -27,9 +26,9 @@ use Rattle.object_meaning.specs.Touches.{Test, tested}
 use Rattle.object_meaning.specs.declared.values.PtrValue.{PtrValue}
 use Rattle.object_meaning.specs.declared.values.Value.{Value}
 use Rattle.plain_meaning.specs.Actions.{State, Outcome, On, Stop, bind, Action, ◌>>=◌, ◌>>◌, pure, look, change, stop, defined, passes, note, objects, set_objects, Variable, set_variable}
-use Rattle.plain_meaning.specs.Expressions.{element_of, data_object, loaded, on_integers, on_pointer, on_pointers, operated, combined, unknown}
+use Rattle.plain_meaning.specs.Expressions.{element_of, data_object, loaded, on_pointer, operated, combined, unknown}
 use Rattle.plain_meaning.specs.Library.{asked, world, ended, act, judged, checked, library}
-use Rattle.plain_meaning.specs.Values.{uses, holds, computed, variable, Lvalue, InRegister, InMemory, no_lvalue, load, store, copy, moved}
+use Rattle.plain_meaning.specs.Values.{uses, holds, computed, variable, Lvalue, InRegister, InMemory, load, store, copy, moved}
 use Rattle.mean_steps.specs.Operations.{uncalled, indirected, convert, tested_by, negated, applied, assign_to, element_at, member_at, decayed, operate, copy_to, combine_to, step_at, old_at, new_at, size_by}
 
 module _ {A : Type 0} where
@@ -87,7 +86,20 @@ steady_set_objects objs = steady_change _
 pub steady_set_variable : (n : ℕ) (variable : Variable) → IsSteady (set_variable n variable)
 steady_set_variable n variable = steady_change _
 
-pub ruleset single = (steady_bind, steady_then, steady_pure, steady_look, steady_stop, steady_objects, steady_note, steady_set_objects, steady_set_variable, steady_defined, steady_passes, steady_if)
+pub ruleset single = (
+  steady_bind,
+  steady_then,
+  steady_pure,
+  steady_look,
+  steady_stop,
+  steady_objects,
+  steady_note,
+  steady_set_objects,
+  steady_set_variable,
+  steady_defined,
+  steady_passes,
+  steady_if,
+)
 
 -- ---- values
 
@@ -148,7 +160,17 @@ steady_library at f args = search (single, steady_checked, steady_act)
 
 -- ---- what nodes do
 
-pub ruleset operations = (single, steady_uses, steady_holds, steady_computed, steady_load, steady_store, steady_copy, steady_moved, steady_asked)
+pub ruleset operations = (
+  single,
+  steady_uses,
+  steady_holds,
+  steady_computed,
+  steady_load,
+  steady_store,
+  steady_copy,
+  steady_moved,
+  steady_asked,
+)
 
 pub steady_indirected : (e : TypedExpr) (v : Value) → IsSteady (indirected e v)
 steady_indirected e v = search operations
@@ -187,7 +209,8 @@ module _ (tags : List TagDef) where
   pub steady_loaded : (x : Action Lvalue) (e : TypedExpr) → IsSteady x → IsSteady (loaded tags (uncalled tags) x e)
   steady_loaded x e h = search operations
 
-  steady_on_pointer : (o : BinaryOperator) (t u : CType) (e : TypedExpr) (x y : Value) → IsSteady (on_pointer tags (uncalled tags) o t u e x y)
+  steady_on_pointer : (o : BinaryOperator) (t u : CType) (e : TypedExpr) (x y : Value)
+      → IsSteady (on_pointer tags (uncalled tags) o t u e x y)
   steady_on_pointer op.Subtract t u e x y = search operations
   steady_on_pointer _ t u e x y = search operations
 

@@ -1,5 +1,5 @@
 -- Each move of the machine has less work behind it.
-use Rattle.std.proofs.Common.{◌≡◌, ℕ, ◌+◌, ◌<◌, ◌≤◌, List, [], ◌∷◌, map, Bool, true, false, Option, Some, None, refl, sym, ap, ◌∙◌, subst, arith}
+use Rattle.std.proofs.Common.{◌≡◌, ℕ, ◌+◌, ◌<◌, ◌≤◌, List, [], ◌∷◌, Bool, true, false, Option, Some, None, sym, ◌∙◌, subst, arith}
 use Rattle.std.specs.Prelude.{if◌then◌else◌, ◌&&◌}
 use Rattle.std.specs.Option.{option_map_or}
 use Rattle.c_arithmetic.specs.declared.operators.BinaryOperator.{BinaryOperator}
@@ -31,7 +31,7 @@ use Rattle.plain_meaning.specs.Values.{uses, holds, Lvalue, no_lvalue, variable,
 use Rattle.mean_steps.specs.Machine as machine
 use Rattle.mean_steps.specs.Machine.{Pending, Indirect, IndexRight, IndexAt, Select, Convert, Discard, Right, Operate, AndRight, OrRight, Truth, Choose, Commas, AssignTo, CopyTo, CombineTo, Apply, Negate, Arguments, SizeEnd, Load, Decay, AssignFrom, CopyFrom, CombineFrom, StepOld, StepNew, AddressOf, Signal, Gives, Designates, Eval, Designate, begun, with_arg, with_args, with_state, Config, Move, goes, tell, settled, does, call_with, next_arg, eval_kind, place_kind, eval, place_of, with_value, with_place, resume, last_of, mode_in}
 use Rattle.mean_steps.specs.Operations.{uncalled, indirected, convert, tested_by, negated, applied, assign_to, element_at, member_at, decayed, operate, copy_to, combine_to, old_at, new_at, size_by}
-use Rattle.mean_steps.specs.Weights.{kind_weight, expr_weight, tree_weight, trees_weight, items_weight, stack_weight, move_weight}
+use Rattle.mean_steps.specs.Weights.{kind_weight, expr_weight, tree_weight, trees_weight, stack_weight, move_weight}
 
 -- a tree weighs what its kind does
 abbrev weighed : TypedKind-F TypedKind TypedExpr → ℕ
@@ -62,7 +62,8 @@ finds_less : (a : Action Lvalue) (c : Config) (n : ℕ) → stack_weight c.pendi
 finds_less a c n h = does_less machine.designate c n a h (λ v s. omega (arith, h))
 
 call_less : (callee : Callee) (e : TypedExpr) (c : Config) → move_weight (call_with callee e c) < 1 + stack_weight c.pending
-call_less (Function n) e c = does_less (λ done. goes (machine.Begin n e.place)) c _ (uses e.place c.args.row) (omega arith) (λ v s. omega arith)
+call_less (Function n) e c =
+    does_less (λ done. goes (machine.Begin n e.place)) c _ (uses e.place c.args.row) (omega arith) (λ v s. omega arith)
 call_less (Library f) e c = gives_less (library e.place f c.args.row) (with_args (machine.ended c.args) c) _ (omega arith)
 
 next_less : (callee : Callee) (es : List TypedExpr) (e : TypedExpr) (c : Config)
@@ -124,7 +125,8 @@ module _ (tags : List TagDef) where
 
   sized_less : (pointer : TypedExpr) (mode : Mode) (e : TypedExpr) (c : Config)
       → move_weight (machine.sized tags pointer mode e c) < tree_weight pointer + 2 + stack_weight c.pending
-  sized_less pointer mode e c = if_less (has_effects pointer) _ _ _ (gives_less (unknown tags (uncalled tags) mode e) c _ (omega arith)) (omega arith)
+  sized_less pointer mode e c =
+      if_less (has_effects pointer) _ _ _ (gives_less (unknown tags (uncalled tags) mode e) c _ (omega arith)) (omega arith)
 
   kind_less : (kind : TypedKind-F TypedKind TypedExpr) (e : TypedExpr) (c : Config)
       → move_weight (eval_kind tags kind e c) < weighed kind + stack_weight c.pending
@@ -209,7 +211,8 @@ module _ (tags : List TagDef) where
       (λ t s. if_less t _ _ _ (omega arith) (omega arith))
   value_less (Truth e) v c = gives_less (tested_by e v) c _ (omega arith)
   value_less (Choose a b e) v c =
-      does_less (λ t. goes (Eval (if t then a else b))) c _ (holds e.place v) (omega arith) (λ t s. let h = test_less t a b in omega (arith, h))
+      does_less (λ t. goes (Eval (if t then a else b))) c _ (holds e.place v) (omega arith)
+      (λ t s. let h = test_less t a b in omega (arith, h))
   value_less (Commas more) v c = let h = last_less more c in omega (arith, h)
   value_less (AssignTo x e) v c = gives_less (assign_to x e v) c _ (omega arith)
   value_less (CopyTo x e) v c = gives_less (copy_to tags x e v) c _ (omega arith)
@@ -233,7 +236,8 @@ module _ (tags : List TagDef) where
   lvalue_less (AssignFrom from e) x c = omega arith
   lvalue_less (CopyFrom from e) x c = omega arith
   lvalue_less (CombineFrom o from e) x c =
-      does_less (λ old. machine.eval_then from (CombineTo o x old from.ctype e)) c _ (load e.place e.ctype x) (omega arith) (λ old s. omega arith)
+      does_less (λ old. machine.eval_then from (CombineTo o x old from.ctype e)) c _ (load e.place e.ctype x) (omega arith)
+      (λ old s. omega arith)
   lvalue_less (StepOld o e) x c = gives_less (old_at tags o e x) c _ (omega arith)
   lvalue_less (StepNew o e) x c = gives_less (new_at tags o e x) c _ (omega arith)
   lvalue_less AddressOf x c = omega arith

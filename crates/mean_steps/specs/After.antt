@@ -1,7 +1,6 @@
--- What the pending work makes of a value or an lvalue, by the plain meaning of each tree that it holds: the machine and this together say what
--- a run comes to.
-use Rattle.std.specs.Prelude.{ℕ, Bool, if◌then◌else◌, List, [], ◌∷◌, ◌++◌, map, Option, None, Some}
-use Rattle.fc_base.specs.declared.levels.End.TheVariants.{Exit}
+-- What the pending work makes of a value or an lvalue, by the plain meaning of each tree that it holds: the machine and this together say
+-- what a run comes to.
+use Rattle.std.specs.Prelude.{ℕ, if◌then◌else◌, List, [], ◌∷◌, ◌++◌, map, Option, None, Some}
 use Rattle.fc_base.specs.declared.refusals.Place.{Place}
 use Rattle.c_layout.specs.declared.tags.TagDef.{TagDef}
 use Rattle.c_tree.specs.declared.typed.Callee.{Callee}
@@ -12,7 +11,7 @@ use Rattle.run_meaning.specs.Runs.{Standing}
 use Rattle.object_meaning.specs.declared.values.Value.{Value}
 use Rattle.object_meaning.specs.declared.values.Value.TheVariants.{Int, Pointer, Nothing}
 use Rattle.plain_meaning.specs.Actions.{Action, ◌>>=◌, ◌>>◌, pure, Outcome, On, Stop, State, argument_standing}
-use Rattle.plain_meaning.specs.Expressions.{Calls, Part, part_of, value_of, values, last_value, tested_value}
+use Rattle.plain_meaning.specs.Expressions.{Calls, Part, part_of, value_of, values, last_value}
 use Rattle.plain_meaning.specs.Library.{library}
 use Rattle.plain_meaning.specs.Values.{uses, holds, Lvalue, load, place_in}
 use Rattle.mean_steps.specs.Machine.{Pending, Indirect, IndexRight, IndexAt, Select, Convert, Discard, Right, Operate, AndRight, OrRight, Truth, Choose, Commas, AssignTo, CopyTo, CombineTo, Apply, Negate, Arguments, SizeEnd, Load, Decay, AssignFrom, CopyFrom, CombineFrom, StepOld, StepNew, AddressOf, Signal, Gives, Designates, Control, Eval, Designate, Tell, Begin, Over, Rows, ended, Config, Move}
@@ -58,7 +57,8 @@ module _ (tags : List TagDef) (call : Calls) (ends : Option Place → Value → 
     pub after_value : Option Place → List Pending → Rows → Value → State → ℕ → Answer
     after_value k [] args v s left = ends k v s left
     after_value k (Indirect e ∷ ps) args v s left = hand k (indirected e v s left) (after_place k ps args)
-    after_value k (IndexRight t b e ∷ ps) args v s left = hand k ((value b >>= element_at tags t b.ctype e v) s left) (after_place k ps args)
+    after_value k (IndexRight t b e ∷ ps) args v s left =
+        hand k ((value b >>= element_at tags t b.ctype e v) s left) (after_place k ps args)
     after_value k (IndexAt t u e x ∷ ps) args v s left = hand k (element_at tags t u e x v s left) (after_place k ps args)
     after_value k (Select t arrow member e ∷ ps) args v s left = hand k (member_at tags t arrow member e v s left) (after_place k ps args)
     after_value k (Convert e ∷ ps) args v s left = hand k (convert e v s left) (after_value k ps args)

@@ -1,5 +1,5 @@
 -- Laws of the machine: its moves come to an end, and to what the plain meaning says.
-use Rattle.std.specs.Prelude.{◌≡◌, ◌<◌, ℕ, Bool, true, false, List, Option}
+use Rattle.std.specs.Prelude.{◌≡◌, ◌<◌, ℕ, true, false, List, Option}
 use Rattle.c_layout.specs.declared.tags.TagDef.{TagDef}
 use Rattle.fc_base.specs.declared.refusals.Place.{Place}
 use Rattle.object_meaning.specs.declared.values.Value.{Value}

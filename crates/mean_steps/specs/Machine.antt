@@ -1,6 +1,6 @@
--- A machine with a stack of pending work (C11 5.1.2.3 without a recursion): what it does next is one equation a kind of node, and one a kind
--- of pending work. Nothing here looks at the steps that are left.
-use Rattle.std.specs.Prelude.{ℕ, Bool, true, false, ◌&&◌, if◌then◌else◌, List, [], ◌∷◌, ◌++◌, Option, None, Some}
+-- A machine with a stack of pending work (C11 5.1.2.3 without a recursion): what it does next is one equation a kind of node, and one a
+-- kind of pending work. Nothing here looks at the steps that are left.
+use Rattle.std.specs.Prelude.{ℕ, Bool, ◌&&◌, if◌then◌else◌, List, [], ◌∷◌, ◌++◌, Option, None, Some}
 use Rattle.std.specs.Option.{option_map_or}
 use Rattle.c_arithmetic.specs.declared.operators.BinaryOperator.{BinaryOperator}
 use Rattle.c_arithmetic.specs.declared.operators.BinaryOperator.TheVariants as op
@@ -8,7 +8,6 @@ use Rattle.c_arithmetic.specs.declared.operators.UnaryOperator.{UnaryOperator}
 use Rattle.c_layout.specs.declared.tags.TagDef.{TagDef}
 use Rattle.c_layout.specs.declared.types.CType.{CType}
 use Rattle.c_layout.specs.Types.{is_void, is_integer, is_pointer, is_array, is_structure}
-use Rattle.c_library.specs.declared.functions.LibFn.{LibFn}
 use Rattle.c_tree.specs.declared.operators.AssignOp.{AssignOp}
 use Rattle.c_tree.specs.declared.operators.BinaryOp.{BinaryOp}
 use Rattle.c_tree.specs.declared.operators.BinaryOp.TheVariants.{LogicalOr, LogicalAnd}
@@ -30,7 +29,7 @@ use Rattle.run_meaning.specs.Runs.{Standing}
 use Rattle.object_meaning.specs.Provenance.{null}
 use Rattle.object_meaning.specs.declared.values.Value.{Value}
 use Rattle.object_meaning.specs.declared.values.Value.TheVariants.{Int, Pointer, Nothing}
-use Rattle.plain_meaning.specs.Actions.{Action, ◌>>◌, pure, Outcome, On, Stop, State}
+use Rattle.plain_meaning.specs.Actions.{Action, Outcome, On, Stop, State}
 use Rattle.plain_meaning.specs.Expressions.{numbered_mode, data_object, loaded, unknown}
 use Rattle.plain_meaning.specs.Library.{library}
 use Rattle.plain_meaning.specs.Paths.{has_effects}

@@ -11,7 +11,6 @@ use Rattle.c_tree.specs.declared.typed.TypedExpr.{TypedExpr}
 use Rattle.c_tree.specs.Conversions.{number_type}
 use Rattle.c_tree.specs.Paths.{is_trailing}
 use Rattle.fc_base.specs.declared.levels.Mode.{Mode}
-use Rattle.fc_base.specs.declared.refusals.Place.{Place}
 use Rattle.fc_base.specs.declared.undefined.UndefKind.TheVariants as kind
 use Rattle.object_meaning.specs.LibraryCalls.{number_in}
 use Rattle.object_meaning.specs.OnObjects.{as_pointer}
@@ -77,8 +76,8 @@ module _ (tags : List TagDef) where
     objs ← objects
     let whole = if arrow then pointed t else t
     p ← defined e.place
-        (member_place (is_trailing tags e) (is_named e) (member_offset tags uncalled whole member) (declared_size tags uncalled e.ctype) objs
-        (as_pointer v))
+        (member_place (is_trailing tags e) (is_named e) (member_offset tags uncalled whole member) (declared_size tags uncalled e.ctype)
+        objs (as_pointer v))
     pure (InMemory p)
 
   -- an array that stands there, as a pointer

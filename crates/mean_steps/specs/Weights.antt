@@ -3,7 +3,7 @@ use Rattle.std.specs.Prelude.{ℕ, zero, suc, ◌+◌, if◌then◌else◌, Bool
 use Rattle.c_layout.specs.declared.tags.TagDef.{TagDef}
 use Rattle.c_tree.specs.declared.typed.TypedExpr.{TypedExpr, fold-TypedExpr}
 use Rattle.c_tree.specs.declared.typed.TypedKind.TheOpen.{TypedKind-F, TypedExpr-F}
-use Rattle.mean_steps.specs.Machine.{Pending, Indirect, IndexRight, IndexAt, Select, Convert, Discard, Right, Operate, AndRight, OrRight, Truth, Choose, Commas, AssignTo, CopyTo, CombineTo, Apply, Negate, Arguments, SizeEnd, Load, Decay, AssignFrom, CopyFrom, CombineFrom, StepOld, StepNew, AddressOf, Signal, Control, Eval, Designate, Tell, Begin, Over, Config, Move, goes, eval, place_of, resume}
+use Rattle.mean_steps.specs.Machine.{Pending, IndexRight, Right, AndRight, OrRight, Choose, Commas, Arguments, AssignFrom, CopyFrom, CombineFrom, Signal, Control, Eval, Designate, Tell, Config, Move, goes, eval, place_of, resume}
 
 -- ---- trees
 

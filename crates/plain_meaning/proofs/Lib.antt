@@ -5,5 +5,4 @@ mod ExtendsNodes
 mod ExtendsStatements
 pub mod ExtendsTrees
 mod ExtendsValues
-mod Nodes
 mod Rows

@@ -1,10 +1,9 @@
 -- Sources that are worked by the definition: their typed trees, with their events and ends.
-use Rattle.std.proofs.Common.{◌≡◌, ℕ, true, false, List, [], ◌∷◌, Option, Some, None, rules}
-use Rattle.std.specs.Prelude.{codes, ◌+◌, ◌-◌}
-use Rattle.c_layout.specs.declared.tags.TagDef.{TagDef}
+use Rattle.std.proofs.Common.{◌≡◌, ℕ, true, false, List, [], ◌∷◌, Some, None, rules}
+use Rattle.std.specs.Prelude.{codes}
 use Rattle.c_layout.specs.declared.types.CType as ct
 use Rattle.c_layout.specs.declared.types.CType.{CType}
-use Rattle.c_layout.specs.declared.types.CType.TheVariants.{Void, Ptr, Array}
+use Rattle.c_layout.specs.declared.types.CType.TheVariants.{Void, Ptr}
 use Rattle.c_layout.specs.Types.{char, int, unsigned_long}
 use Rattle.c_library.specs.declared.functions.LibFn.TheVariants as fn
 use Rattle.c_tree.specs.declared.operators.AssignOp.TheVariants.{Plain}
@@ -25,7 +24,7 @@ use Rattle.c_tree.specs.declared.typed.TypedStmt.{TypedStmt}
 use Rattle.c_tree.specs.declared.typed.TypedStmt.TheVariants as s
 use Rattle.fc_base.specs.declared.levels.End.TheVariants.{Exit}
 use Rattle.fc_base.specs.declared.refusals.Place.{Place}
-use Rattle.fc_base.specs.declared.undefined.UndefKind.TheVariants.{Uninitialised, DeadObject, OutOfObject, BadArithmetic, SizeArgument}
+use Rattle.fc_base.specs.declared.undefined.UndefKind.TheVariants.{Uninitialised, DeadObject, SizeArgument}
 use Rattle.run_meaning.specs.Runs.{Ended, Undefined, Going}
 use Rattle.run_meaning.specs.Worlds.{Input}
 use Rattle.plain_meaning.specs.Programs.{plain}
@@ -98,9 +97,11 @@ sets to from line col = does (x (t.Assign Plain to from) (Ptr int) line col)
 
 dead :
     plain (program (function_of (variable (Ptr int) ∷ in_memory int ∷ variable (Ptr int) ∷ [])
-    (declares 0 1 6 ∷ s.Block (begins 1 (number 3 1 19) 1 15 ∷ sets (p 1 22) (x (t.Prefix Address (x (t.Local 1) int 1 27)) (Ptr int) 1 26) 1 24 ∷ []) (at 1 9)
+    (declares 0 1 6 ∷ s.Block
+    (begins 1 (number 3 1 19) 1 15 ∷ sets (p 1 22) (x (t.Prefix Address (x (t.Local 1) int 1 27)) (Ptr int) 1 26) 1 24 ∷ []) (at 1 9)
     ∷ begins 2 (p 2 10) 2 6
-    ∷ sets (q 2 13) (x (t.Cast (x (t.Cast (x (t.Cond (number 1 2 33) (q 2 37) (p 2 41)) (Ptr int) 2 35) false) (Ptr Void) 2 24) false) (Ptr int) 2 17) 2 15
+    ∷ sets (q 2 13)
+    (x (t.Cast (x (t.Cast (x (t.Cond (number 1 2 33) (q 2 37) (p 2 41)) (Ptr int) 2 35) false) (Ptr Void) 2 24) false) (Ptr int) 2 17) 2 15
     ∷ sets (q 2 45) (x (t.Prefix Address (x (t.Prefix Indirection (q 2 51)) int 2 50)) (Ptr int) 2 49) 2 47
     ∷ returns (x (t.Binary Equal (q 2 61) (p 2 66)) int 2 63) 2 54 ∷ []) ∷ [])) [] no_input 0
     ≡ ([], Undefined DeadObject (at 2 63))
@@ -133,7 +134,8 @@ chosen = search (rules, ct.the_lemmas, tk.the_lemmas, ti.the_lemmas, ts.the_lemm
 
 -- `int y; y = f();`
 assigned :
-    plain (with_f (variable int ∷ []) (declares 0 1 5 ∷ does (x (t.Assign Plain (x (t.Local 0) int 1 8) (calls_f 12)) int 1 10) ∷ [])) [] no_input 1
+    plain (with_f (variable int ∷ [])
+    (declares 0 1 5 ∷ does (x (t.Assign Plain (x (t.Local 0) int 1 8) (calls_f 12)) int 1 10) ∷ [])) [] no_input 1
     ≡ ([], Undefined Uninitialised (at 1 10))
 assigned = search (rules, ct.the_lemmas, tk.the_lemmas, ti.the_lemmas, ts.the_lemmas)
 
@@ -163,7 +165,9 @@ bytes = x (t.Local 0) (Ptr char) 2 10
 abbrev freed : List TypedStmt → TypedTree
 freed items =
     program (function_of (variable (Ptr char) ∷ [])
-    (begins 0 (x (t.Cast (x (t.Call (Library fn.Malloc) (x (t.Cast (number 4 1 18) true) unsigned_long 1 18 ∷ [])) (Ptr Void) 1 11) true) (Ptr char) 1 11) 1 7
+    (begins 0
+    (x (t.Cast (x (t.Call (Library fn.Malloc) (x (t.Cast (number 4 1 18) true) unsigned_long 1 18 ∷ [])) (Ptr Void) 1 11) true)
+    (Ptr char) 1 11) 1 7
     ∷ does (x (t.Call (Library fn.Free) (x (t.Cast (x (t.Local 0) (Ptr char) 1 27) true) (Ptr Void) 1 27 ∷ [])) Void 1 22) ∷ items) ∷ [])
 
 -- `__builtin_dynamic_object_size(p, 0);`
@@ -174,6 +178,7 @@ size_of_dead = search (rules, ct.the_lemmas, tk.the_lemmas, ti.the_lemmas, ts.th
 
 -- `__builtin_dynamic_object_size(p + 1, 0);`
 size_argument :
-    plain (freed (does (x (t.SizeCall (x (t.Binary Add bytes (number 1 2 14)) (Ptr char) 2 12) (number 0 2 17)) unsigned_long 2 1) ∷ [])) [] no_input 0
+    plain (freed (does (x (t.SizeCall (x (t.Binary Add bytes (number 1 2 14)) (Ptr char) 2 12) (number 0 2 17)) unsigned_long 2 1) ∷ []))
+    [] no_input 0
     ≡ ([], Undefined SizeArgument (at 2 1))
 size_argument = search (rules, ct.the_lemmas, tk.the_lemmas, ti.the_lemmas, ts.the_lemmas)
