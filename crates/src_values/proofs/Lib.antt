@@ -9,6 +9,7 @@ mod Numbers
 mod Paging
 mod Pointers
 mod Putting
+pub mod Rooms
 mod Spots
 mod Storing
 mod Values

@@ -20,6 +20,17 @@ put-cons at c cs xs l =
     ∙ ap (λ ys. ys ++ (cs ++ drop (at + 1 + length cs) xs)) (sym (take_more_set xs at c l))
     ∙ ap (λ ys. take (at + 1) (set xs at c) ++ (cs ++ ys)) (sym (drop-set-lt (at + 1 + length cs) xs at c under))
 
+-- cells that are put in two parts
+pub put_more : (at : ℕ) (xs ys cells : List Cell) → at + length xs ≤ length cells
+    → put (at + length xs) ys (put at xs cells) ≡ put at (xs ++ ys) cells
+put_more at [] ys cells l = let e : at + 0 ≡ at = omega arith in ap (λ k. put k ys (put at [] cells)) e ∙ ap (put at ys) (put_none at cells)
+put_more at (x ∷ xs) ys cells l =
+    let e : at + suc (length xs) ≡ at + 1 + length xs = omega arith in
+    ap (λ k. put k ys (put at (x ∷ xs) cells)) e
+    ∙ ap (put (at + 1 + length xs) ys) (put-cons at x xs cells (omega arith))
+    ∙ put_more (at + 1) xs ys (set cells at x) (omega (arith, l, length-set cells at x))
+    ∙ sym (put-cons at x (xs ++ ys) cells (omega arith))
+
 -- the first byte, and then the others
 pub bytes_next : (at n x : ℕ) (object : Object) → 0 < n → at + n ≤ length object.cells
     → with_cells object (put at (map Byte (bytes_of n x)) object.cells)

@@ -5,6 +5,7 @@ pub mod Numbers
 pub mod Pages
 pub mod Parts
 pub mod Rests
+pub mod Room
 pub mod Seen
 pub mod Spots
 pub mod Table

@@ -1,6 +1,6 @@
 //! Cells that are copied as they are.
 
-ghost use Rattle.std.specs.Prelude.{◌≡◌, ◌≢◌, ◌+◌, ◌<◌, ◌≤◌, pos, length, map, take, drop, true, vec_len};
+ghost use Rattle.std.specs.Prelude.{◌≡◌, ◌≢◌, ◌+◌, ◌<◌, ◌≤◌, pos, length, map, replicate, take, drop, true, vec_len};
 ghost use Rattle.library_meaning.specs.Memory.{put};
 ghost use Rattle.object_meaning.specs.Objects.{object_at, is_live, with_cells, put_cells};
 ghost use Rattle.object_meaning.specs.declared.values.Cell.TheVariants.{Byte};
@@ -108,5 +108,16 @@ pub fn put_bytes(object: &mut Object, at: usize, bytes: &[u8])
     let _size = object.size();
     for i in 0..bytes.len() {
         object.put(at + i, Cell::Byte(bytes[i]));
+    }
+}
+
+/// Puts so many of one byte.
+pub fn put_same(object: &mut Object, at: usize, byte: u8, count: usize)
+    requires { at + count ≤ length object.old.cells }
+    ensures { object.new ≡ with_cells object.old (put at (replicate count (Byte byte)) object.old.cells) }
+{
+    let _size = object.size();
+    for i in 0..count {
+        object.put(at + i, Cell::Byte(byte));
     }
 }

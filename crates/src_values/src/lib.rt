@@ -18,4 +18,5 @@ mod validity;
 
 pub use memory::Memory;
 pub use object_meaning::{Cell, Ptr, PtrValue, Tag};
+pub use objects::Object;
 pub use rules::{forgot, fresh, null};

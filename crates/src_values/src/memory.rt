@@ -1,17 +1,19 @@
 //! Memory as objects.
 
-ghost use Rattle.std.specs.Prelude.{◌≡◌, ◌+◌, ◌<◌, ◌≤◌, ◌^◌, length, map, IfOk, OnOk, OnErr, true, false, []};
+ghost use Rattle.std.specs.Prelude.{◌≡◌, ◌+◌, ◌++◌, ◌<◌, ◌≤◌, ◌^◌, pos, length, map, replicate, IfOk, OnOk, OnErr, true, false, []};
 ghost use Rattle.fc_base.specs.Widths.{width_bytes};
-ghost use Rattle.object_meaning.specs.Memory.{load, load_pointer, move_by, store, store_pointer, copy};
-ghost use Rattle.object_meaning.specs.Objects.{object_at, is_live, size_at, begun, add, finish, fill};
+ghost use Rattle.object_meaning.specs.Memory.{load, load_pointer, move_by, store, store_pointer, copy, IsMemory};
+ghost use Rattle.object_meaning.specs.Objects.{object_at, is_live, size_at, begun, add, finish, fill, put_cells};
 ghost use Rattle.object_meaning.specs.Provenance.{IsValid, IsPointer};
 ghost use Rattle.object_meaning.specs.Sizes.{size_of, true_size};
-ghost use Rattle.object_meaning.specs.Touches.{is_dead, lies_in};
+ghost use Rattle.object_meaning.specs.Touches.{is_dead, lies_in, reads, cells_at, put_at};
+ghost use Rattle.object_meaning.specs.declared.values.Cell.TheVariants.{Byte};
 ghost use Rattle.src_values.specs.Bracket.{BoundsTrueSize};
 ghost use Rattle.src_values.specs.Numbers.{Changes};
+ghost use Rattle.src_values.specs.Room.{IsRoom};
 ghost use Rattle.src_values.specs.Spots.{spot_for, spots_for};
 
-use crate::copies::{Spot, copy_cells};
+use crate::copies::{Spot, copy_cells, put_bytes, put_same};
 use crate::loads::number_at;
 use crate::moves::{moved_tag, moved_within};
 use crate::objects::Object;
@@ -109,6 +111,21 @@ impl Memory {
         ensures { result ≡ (object_at self.now object).writable }
     {
         self.objects.is_writable(object)
+    }
+
+    /// Says what memory keeps: each live object has its cells, and the pointers in them are valid. It does nothing.
+    pub fn is_kept(&self)
+        ensures { IsMemory self.now }
+    {
+        let _objects = &self.objects;
+    }
+
+    /// A live object.
+    pub fn object(&self, number: u64) -> &Object
+        requires { is_live self.now number ≡ true }
+        ensures { result.now ≡ object_at self.now number }
+    {
+        self.objects.at(number)
     }
 
     /// Where so many bytes lie that an operation reads or writes, one at least, or why it is undefined.
@@ -371,6 +388,72 @@ impl Memory {
             Err(kind) => Err(kind),
         }
     }
+
+    /// Puts so many of one byte behind a pointer, where there is room. Null has none.
+    pub fn put_same(&mut self, to: PtrValue, offset: u64, byte: u8, count: u64)
+        requires { IsRoom self.old to offset count }
+        ensures { self.new ≡ put_at self.old to offset (replicate count (Byte byte)) }
+    {
+        let PtrValue::At(place) = to else {
+            return;
+        };
+        let start = place.offset.unsigned_abs() + offset;
+        let object = self.objects.at_mut(place.object);
+        put_same(object, start as usize, byte, count as usize);
+    }
+
+    /// Puts bytes behind a pointer, where there is room.
+    pub fn put_bytes(&mut self, to: PtrValue, offset: u64, bytes: &[u8])
+        requires { IsRoom self.old to offset (length bytes.now) }
+        ensures { self.new ≡ put_at self.old to offset (map Byte bytes.now) }
+    {
+        let PtrValue::At(place) = to else {
+            return;
+        };
+        let start = place.offset.unsigned_abs() + offset;
+        let object = self.objects.at_mut(place.object);
+        put_bytes(object, start as usize, bytes);
+    }
+
+    /// Puts cells behind a pointer, where there is room: so many from behind another one, as if all were read before one is put, and so
+    /// many zero bytes behind them.
+    pub fn put_text(&mut self, to: PtrValue, offset: u64, from: PtrValue, count: u64, zeros: u64)
+        requires target { IsRoom self.old to offset (count + zeros) }
+        requires source { IsRoom self.old from 0 count }
+        ensures { self.new ≡ put_at self.old to offset (cells_at self.old (reads from count) ++ replicate zeros (Byte 0)) }
+    {
+        let PtrValue::At(place) = to else {
+            return;
+        };
+        let target = Spot {
+            object: place.object,
+            start: place.offset.unsigned_abs() + offset,
+        };
+        let copied = copy_behind(&mut self.objects, target, from, count, self.alloc);
+        let object = self.objects.at_mut(target.object);
+        put_same(object, (target.start + copied) as usize, 0, zeros as usize);
+    }
+}
+
+/// Copies so many cells from behind a pointer to a place, and tells how many there are: none behind null.
+fn copy_behind(objects: &mut Objects, to: Spot, from: PtrValue, count: u64, alloc: Global) -> u64
+    requires memory { IsMemory objects.old }
+    requires live { is_live objects.old to.object ≡ true }
+    requires room { to.start + count ≤ length (object_at objects.old to.object).cells }
+    requires source { IsRoom objects.old from 0 count }
+    ensures copied { objects.new ≡ put_cells objects.old to.object (pos to.start) (cells_at objects.old (reads from count)) }
+    ensures long { result ≡ length (cells_at objects.old (reads from count)) }
+    ensures few { result ≤ count }
+{
+    let PtrValue::At(place) = from else {
+        return 0;
+    };
+    let source = Spot {
+        object: place.object,
+        start: place.offset.unsigned_abs(),
+    };
+    copy_cells(objects, to, source, count as usize, alloc);
+    count
 }
 
 /// How many bytes a width has.
