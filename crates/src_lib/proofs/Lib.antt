@@ -1,0 +1,7 @@
+mod Appends
+mod Asking
+mod Ordering
+mod Pairing
+mod Rows
+mod Scans
+mod Tests
