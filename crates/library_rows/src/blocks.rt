@@ -13,10 +13,12 @@ use str_chk::{strcmp_c, strlen_c};
 /// Where the second text lies, and how many bytes both have.
 const B: u64 = A + 1000;
 
-const LENGTH: u64 = 600;
+const LENGTH: u64 = 603;
 
-/// Where the texts differ.
-const PLACES: &[u64] = &[0, 1, 15, 16, 254, 255, 256, 257, 511, 512, 513, 598, 599];
+/// Where the texts differ: at the edges of 8, 32 and 256 bytes, and in the last bytes, which fill no group of 8.
+const PLACES: &[u64] = &[
+    0, 1, 7, 8, 15, 16, 31, 32, 33, 63, 64, 255, 256, 257, 511, 512, 575, 576, 599, 600, 601, 602,
+];
 
 /// Two texts of the letter a, of which the first has this byte at a place.
 fn write(mem: &mut [u8], place: u64, byte: u8)

@@ -7,6 +7,7 @@ use crate::calls::{Answer, answers};
 use crate::memory::{A, END, NO_SIZE, clear, stand, store, zeros};
 use fc_base::{MemSink, NoMemory};
 use library_meaning::HostStop;
+use mem_chk::memset_c;
 use print_chk::{print_mem, print_out};
 use std::alloc::Global;
 use std::process::Abort;
@@ -491,6 +492,9 @@ fn prints_fit_their_buffers(rt: HostRuntime) -> Result<(), Fail> {
     Ok(())
 }
 
+/// Where a string of 4,096 times the letter z stands, which a precision of 4,095 cuts.
+const LONG: u64 = A + 8192;
+
 /// A format at A of 4,095 characters, its argument, the character that fills it, and its last or first one.
 type Wide = (&'static [u8], u64, u8, u8, bool);
 
@@ -507,6 +511,9 @@ const WIDE: &[Wide] = &[
     (b"%4095s", A + 16, b' ', b'z', false),
     (b"%-4095.1s", A + 16, b' ', b'z', true),
     (b"%4095.4095s", A + 16, b' ', b'z', false),
+    (b"%.4095s", LONG, b'z', b'z', false),
+    (b"%1.4095s", LONG, b'z', b'z', false),
+    (b"%-4095.4095s", LONG, b'z', b'z', true),
 ];
 
 /// Whether bytes are 4,095 of this filler but for the first or the last.
@@ -546,6 +553,7 @@ fn assert_wide(rt: &impl Abort, alloc: Global, mem: &mut [u8], row: &Wide) -> Re
 fn wide_texts_are_printed(rt: HostRuntime) -> Result<(), Fail> {
     let mut mem = zeros(rt.alloc(), 17_825_792)?;
     store(&mut mem, A + 16, b"z\0");
+    let _long = memset_c(&mut mem, LONG, 122, 4096, NO_SIZE);
     for row in WIDE {
         assert_wide(&rt, rt.alloc(), &mut mem, row)?;
     }
