@@ -19,10 +19,6 @@ use Rattle.print_chk.specs.Stored.{Puts}
 use Rattle.print_chk.specs.declared.formats.Format.{Format}
 use Rattle.print_chk.proofs.Read.{Outcome, behind_second, behind_third, from, goes_on, leaves, text, text_long}
 
--- a call that stops
-pub does_stop : (ops old new : List ℕ) (r : Outcome) (stop : HostStop) → r ≡ Err stop → new ≡ old → Does ops r old new (Err stop)
-does_stop ops old new r stop e is = subst (λ x. Does ops x old new (Err stop)) (sym e) (refl, is)
-
 module _ (ops args m : List ℕ) (i : ℕ) (f : Format) (is : IsFormat args m f) (first : get_or ops i 0 ≡ f.at) (lines : Lines ops args (i + 1) 0) (d : ℕ) (to : address ops 0 0 ≡ d) where
   abbrev written : List ℕ
   written = text ops args m i f is first lines

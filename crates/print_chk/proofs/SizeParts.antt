@@ -1,7 +1,6 @@
 -- The line of a size, in parts.
-use Rattle.std.proofs.Common.{◌≡◌, ℕ, List, [], ◌∷◌, ◌++◌, codes, decimal, Result, Err, Ok, sym, subst, append_assoc}
+use Rattle.std.proofs.Common.{◌≡◌, ℕ, List, [], ◌∷◌, ◌++◌, codes, decimal, append_assoc}
 use Rattle.fc_base.specs.declared.levels.Mode.{Mode}
-use Rattle.fc_base.specs.declared.refusals.Place.{Place}
 use Rattle.run_meaning.specs.Events.{mode_number, size_text, size_line}
 
 abbrev pub line_part : ℕ → List ℕ

@@ -1,5 +1,5 @@
 -- A character that is looked for in a text.
-use Rattle.std.proofs.Common.{◌≡◌, ℕ, ◌+◌, ◌-◌, ◌%◌, ◌<◌, ◌≤◌, ◌≢◌, true, min, List, [], ◌∷◌, length, drop, get_or, None, Some, Result, Ok, Err, refl, sym, ap, ◌∙◌, subst, arith}
+use Rattle.std.proofs.Common.{◌≡◌, ℕ, ◌+◌, ◌-◌, ◌%◌, ◌<◌, ◌≤◌, ◌≢◌, true, min, List, [], ◌∷◌, length, drop, get_or, None, Some, Result, Ok, Err, refl, ap, ◌∙◌, arith}
 use Rattle.std.specs.Prelude.{slice_range}
 use Rattle.std.proofs.Math.Nat.{add-zero}
 use Rattle.std.proofs.lemmas.Bool.{eq-eqb, ne_eqb}
@@ -8,15 +8,16 @@ use Rattle.memchr.specs.Find.{IsFirstByte, is_byte2}
 use Rattle.library_meaning.specs.Scan.{Found, and_then}
 use Rattle.library_meaning.specs.Rows.{Answer, answer, Given, Forgot, Nowhere, run}
 use Rattle.library_meaning.specs.Table.{strchr, place_of, no_limit}
-use Rattle.library_meaning.specs.OnBytes.{on_bytes, number_of, quiet, Does, Reads}
+use Rattle.library_meaning.specs.OnBytes.{on_bytes, number_of, quiet, Reads}
 use Rattle.library_meaning.specs.Memory.{bytes_at, are_valid, memory_size}
 use Rattle.library_meaning.specs.declared.stops.HostStop.{HostStop}
 use Rattle.library_meaning.specs.declared.stops.HostStop.TheVariants as host
+use Rattle.host_bytes.proofs.Endings.{does_giving}
 use Rattle.host_bytes.proofs.Scans.{scanned, found_stops, found_leaves, valid_high}
 
 -- a call that changes nothing, and gives this number
 pub reads_well : (args m : List ℕ) (r : Result (Answer (List ℕ)) HostStop) (given : Given) (n : ℕ) → r ≡ Ok (answer m quiet given) → n ≡ number_of args given → Reads args r m (Ok n)
-reads_well args m r given n e same = subst (λ x. Does args x m m (Ok n)) (sym e) (ap Ok same, refl)
+reads_well args m r given n e same = does_giving args m m m r given n e same refl
 
 -- what a scan that stopped at this byte gives
 pub place_there : (wanted : ℕ) (before : List ℕ) (byte : ℕ) → byte ≡ wanted → place_of wanted (record { before = before; stop = Some byte }) ≡ Forgot 0 (length before)

@@ -1,18 +1,19 @@
 -- What the shapes of rows come to over bytes.
-use Rattle.std.proofs.Common.{◌≡◌, ℕ, ◌+◌, ◌-◌, ◌≤◌, Bool, true, false, ltb, List, [], ◌∷◌, ◌++◌, length, replicate, Option, Some, Result, Ok, Err, refl, sym, ap, ◌∙◌, subst, arith, length-append}
+use Rattle.std.proofs.Common.{◌≡◌, ℕ, ◌+◌, ◌-◌, ◌≤◌, Bool, true, false, ltb, List, [], ◌∷◌, ◌++◌, length, replicate, Option, Some, Result, Ok, Err, refl, sym, ap, ◌∙◌, arith, length-append}
 use Rattle.std.specs.Prelude.{if◌then◌else◌}
 use Rattle.std.proofs.Math.Nat.{add-zero}
 use Rattle.std.proofs.lemmas.List.{length-replicate}
 use Rattle.run_meaning.specs.Worlds.{World}
 use Rattle.library_meaning.specs.Scan.{Found, and_then}
 use Rattle.library_meaning.specs.Memory.{put, are_valid, memory_size, bytes_at}
-use Rattle.library_meaning.specs.Rows.{Row, Text, Point, Gives, Behind, Given, Answer, answer, run, Stretch, stretch}
-use Rattle.library_meaning.specs.Table.{putting, appended, within, ended, strncpy, nul, cells_read, pointers, both_for}
+use Rattle.library_meaning.specs.Rows.{Row, Text, Check, Point, Gives, Behind, Given, Answer, answer, run, Stretch, stretch}
+use Rattle.library_meaning.specs.Table.{putting, appended, within, ended, strcpy_giving, strncpy, nul, cells_read, pointers, both_for}
 use Rattle.library_meaning.specs.OnBytes.{on_bytes, address, valid_then, quiet, Does}
+use Rattle.host_bytes.proofs.Endings.{does_giving}
 use Rattle.host_bytes.proofs.Shapes.{length-bytes_at}
 use Rattle.library_meaning.specs.declared.stops.HostStop.{HostStop}
 use Rattle.library_meaning.specs.declared.stops.HostStop.TheVariants as host
-use Rattle.host_bytes.specs.Texts.{byte_scan, found}
+use Rattle.host_bytes.specs.Texts.{byte_scan, found, LiesIn}
 use Rattle.host_bytes.specs.declared.finding.Text.{Text as Known}
 
 -- bytes that are made are stored, where they may be
@@ -30,6 +31,23 @@ text_is args i limit a next m w r e h = rw (e, h) refl
 -- bytes that are made are stored at an operand's place, so many of them
 pub put_at_is : (args : List ℕ) (k a n : ℕ) (bs : List ℕ) (from : List Stretch) (g : Given) (m : List ℕ) → address args 0 k ≡ a → length bs ≡ n → run (on_bytes args) (putting false k bs from (Gives g)) m quiet ≡ (if are_valid a n then Ok (answer (put a bs m) quiet g) else Err host.BadAddress)
 put_at_is args k a n bs from g m e l = put_is args k bs from (Gives g) m quiet ∙ ap (λ z. if are_valid z (length bs) then Ok (answer (put z bs m) quiet g) else Err host.BadAddress) e ∙ ap (λ z. if are_valid a z then Ok (answer (put a bs m) quiet g) else Err host.BadAddress) l
+
+-- what a scan has found that met its NUL
+pub found_ended : (byte : ℕ) (m : List ℕ) (a : ℕ) (t : Known) → t.ended ≡ true → found byte m a t ≡ record { before = bytes_at m a t.len; stop = Some byte }
+found_ended byte m a t e = rw e refl
+
+-- the text that was found is copied with its NUL, where the bytes at d may be touched
+pub copied_is : (given : ℕ → Given) (m : List ℕ) (d s size : ℕ) (t : Known) (valid : Bool) → byte_scan 0 m s size ≡ Ok (found 0 m s t) → LiesIn 0 m s size t → t.ended ≡ true → are_valid d (t.len + 1) ≡ valid → run (on_bytes (d ∷ s ∷ [])) (strcpy_giving given size) m quiet ≡ (if valid then Ok (answer (put d (bytes_at m s (t.len + 1)) m) quiet (given t.len)) else Err host.BadAddress)
+copied_is given m d s size t valid scan lies ends e =
+    let args : List ℕ = d ∷ s ∷ [] in
+    let f : Found = record { before = bytes_at m s t.len; stop = Some 0 } in
+    let text : List ℕ = bytes_at m s t.len ++ 0 ∷ [] in
+    let whole : length text ≡ t.len + 1 = omega (arith, lies.long, length-append (bytes_at m s t.len) (0 ∷ [])) in
+    text_is args 1 size s (λ t. ended t (Check false (Point pointers pointers (putting false 0 (t.before ++ 0 ∷ []) (stretch 1 0 (cells_read t) ∷ []) (Gives (given (length t.before))))))) m quiet (Ok f) (add-zero s) (scan ∙ ap Ok (found_ended 0 m s t ends))
+    ∙ ap (λ z. run (on_bytes args) (putting false 0 text (stretch 1 0 (cells_read f) ∷ []) (Gives (given z))) m quiet) lies.long
+    ∙ put_at_is args 0 d (t.len + 1) text (stretch 1 0 (cells_read f) ∷ []) (given t.len) m (add-zero d) whole
+    ∙ ap (λ bs. if are_valid d (t.len + 1) then Ok (answer (put d bs m) quiet (given t.len)) else Err host.BadAddress) (sym (lies.whole ends).0)
+    ∙ ap (λ v. if v then Ok (answer (put d (bytes_at m s (t.len + 1)) m) quiet (given t.len)) else Err host.BadAddress) e
 
 pub strncpy_is : (m : List ℕ) (d s n size len : ℕ) (stop : Option ℕ) → length m ≡ memory_size → ltb size n ≡ false → byte_scan 0 m s n ≡ Ok (record { before = bytes_at m s len; stop = stop }) → len ≤ n → are_valid s len ≡ true → run (on_bytes (d ∷ s ∷ n ∷ [])) (strncpy size) m quiet ≡ (if are_valid d n then Ok (answer (put d (bytes_at m s len ++ replicate (n - len) 0) m) quiet (Behind 0 0)) else Err host.BadAddress)
 strncpy_is m d s n size len stop big fits scan le there =
@@ -53,15 +71,8 @@ appended_is touched rest m d s size k most len stop big scan long =
 
 -- a call that ends well at its first operand
 pub does_well : (args m old new : List ℕ) (r : Result (Answer (List ℕ)) HostStop) (d : ℕ) → r ≡ Ok (answer m quiet (Behind 0 0)) → d ≡ address args 0 0 → new ≡ m → Does args r old new (Ok d)
-does_well args m old new r d e same is = subst (λ x. Does args x old new (Ok d)) (sym e) (ap Ok same, is)
-
--- a call that stops
-pub does_stop : (args old new : List ℕ) (r : Result (Answer (List ℕ)) HostStop) (stop : HostStop) → r ≡ Err stop → new ≡ old → Does args r old new (Err stop)
-does_stop args old new r stop e is = subst (λ x. Does args x old new (Err stop)) (sym e) (refl, is)
+does_well args m old new r d e same is = does_giving args m old new r (Behind 0 0) d e same is
 
 -- a scan of the destination that meets its NUL
 pub ended_is : (args : List ℕ) (d size h : ℕ) (next : ℕ → Row) (m : List ℕ) → address args 0 0 ≡ d → byte_scan 0 m d size ≡ Ok (record { before = bytes_at m d h; stop = Some 0 }) → length (bytes_at m d h) ≡ h → run (on_bytes args) (Text nul (stretch 0 0 size) (λ t. ended t (next (length t.before)))) m quiet ≡ run (on_bytes args) (next h) m quiet
 ended_is args d size h next m e scan long = text_is args 0 size d (λ t. ended t (next (length t.before))) m quiet (Ok (record { before = bytes_at m d h; stop = Some 0 })) e scan ∙ ap (λ z. run (on_bytes args) (next z) m quiet) long
-
-pub found_ended : (byte : ℕ) (m : List ℕ) (a : ℕ) (t : Known) → t.ended ≡ true → found byte m a t ≡ record { before = bytes_at m a t.len; stop = Some byte }
-found_ended byte m a t e = rw e refl

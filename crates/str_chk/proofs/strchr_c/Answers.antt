@@ -2,7 +2,7 @@ use Rattle.std.proofs.Common.{◌≡◌, ◌+◌, true, sym, ap, ◌∙◌, refl
 use Rattle.library_meaning.specs.Memory.{are_valid}
 use Rattle.library_meaning.specs.declared.stops.HostStop.TheVariants as host
 use Rattle.str_chk.proofs.Characters.{finds, leaves, reads_well, place_there, place_nowhere}
-use Rattle.str_chk.proofs.Shapes.{does_stop}
+use Rattle.host_bytes.proofs.Endings.{does_stop}
 use Rattle.str_chk.proofs.strchr_c.Goals as goal
 use Rattle.library_meaning.specs.Rows.{answer}
 use Rattle.library_meaning.specs.OnBytes.{quiet}

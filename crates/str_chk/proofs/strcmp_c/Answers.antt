@@ -1,7 +1,7 @@
 use Rattle.std.proofs.Common.{◌≡◌, false, sym, ◌∙◌, refl, inl, inr, ◌∷◌, []}
 use Rattle.library_meaning.specs.Memory.{are_valid}
 use Rattle.library_meaning.specs.declared.stops.HostStop.TheVariants as host
-use Rattle.str_chk.proofs.Shapes.{does_stop}
+use Rattle.host_bytes.proofs.Endings.{does_stop}
 use Rattle.str_chk.proofs.Compares.{no_bytes, strcmp_stops}
 use Rattle.str_chk.proofs.strcmp_c.Goals as goal
 

@@ -1,6 +1,13 @@
 use Rattle.std.proofs.Common.{arith}
-use Rattle.fd_chk.proofs.Taken.{took-append, failed_later}
+use Rattle.fd_chk.proofs.Taken.{took-append, took-none, failed_later}
 use Rattle.fd_chk.proofs.taking.take_to.Goals as goal
+
+pub loop-count-init : goal.loop-count-init
+loop-count-init g c = record {
+  within = omega arith;
+  took = took-none c.args.at c.args.mem.now _;
+  grew = omega arith;
+}
 
 pub loop-count-preserved : goal.loop-count-preserved
 loop-count-preserved g c = record {

@@ -1,5 +1,6 @@
 use Rattle.std.proofs.Common.{◌∷◌, refl, sym, ◌∙◌, arith}
-use Rattle.print_chk.proofs.Into.{cut_exceeds, cut_leaves, cut_none, cut_puts, does_stop}
+use Rattle.host_bytes.proofs.Endings.{does_stop}
+use Rattle.print_chk.proofs.Into.{cut_exceeds, cut_leaves, cut_none, cut_puts}
 use Rattle.print_chk.specs.Readable.{format_directives}
 use Rattle.print_chk.proofs.Puts.{apart_fewer}
 use Rattle.print_chk.proofs.memory.print_bounded.Goals as goal

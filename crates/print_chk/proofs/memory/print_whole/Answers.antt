@@ -1,5 +1,6 @@
 use Rattle.std.proofs.Common.{◌+◌, ◌∷◌, refl, sym, ◌∙◌, arith}
-use Rattle.print_chk.proofs.Into.{does_stop, whole_exceeds, whole_leaves, whole_puts}
+use Rattle.host_bytes.proofs.Endings.{does_stop}
+use Rattle.print_chk.proofs.Into.{whole_exceeds, whole_leaves, whole_puts}
 use Rattle.print_chk.specs.Readable.{format_directives}
 use Rattle.print_chk.proofs.Puts.{apart_fewer}
 use Rattle.print_chk.proofs.memory.print_whole.Goals as goal

@@ -1,4 +1,4 @@
-use Rattle.std.proofs.Common.{◌++◌, Err, ◌∙◌, subst, decimal}
+use Rattle.std.proofs.Common.{◌∙◌, subst, decimal}
 use Rattle.run_meaning.specs.Objects.{stream}
 use Rattle.print_chk.specs.Written.{Wrote}
 use Rattle.print_chk.proofs.Parts.{wrote_both, wrote_first}

@@ -1,10 +1,8 @@
-use Rattle.std.proofs.Common.{◌≡◌, ℕ, ◌+◌, ◌<◌, ◌++◌, List, length, get_or, drop, not, eqb, Ok, sym, ap, ◌∙◌, subst, arith}
+use Rattle.std.proofs.Common.{◌≡◌, ℕ, ◌+◌, ◌<◌, List, length, get_or, eqb, Ok, sym, ap, ◌∙◌, arith}
 use Rattle.std.specs.Prelude.{if◌then◌else◌}
 use lib.Lanes.{chunk}
 use Rattle.std.specs.List.{prefix_len}
 use Rattle.std.proofs.lemmas.Simd.{length-chunk, get_or-chunk}
-use Rattle.library_meaning.specs.Table.{order}
-use Rattle.str_chk.specs.Pairs.{both_scan, order_found}
 use Rattle.str_chk.proofs.Lanes.{Shared, block_goes, block_stops, goes_on, stop_before, stop_here}
 use Rattle.str_chk.proofs.blocks.compare_blocks.Goals as goal
 
