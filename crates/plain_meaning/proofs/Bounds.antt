@@ -1,5 +1,5 @@
 -- A larger bound shows no less, and changes nothing of a run that is over.
-use Rattle.std.proofs.Common.{◌≡◌, ℕ, ◌≤◌, List, [], ◌∷◌, ◌++◌, Bool, true, false, refl, sym, append_assoc, subst}
+use Rattle.std.proofs.Common.{◌≡◌, ℕ, suc, ◌≤◌, List, [], ◌∷◌, ◌++◌, Bool, true, false, refl, sym, append_assoc, subst, arith}
 use Rattle.std.specs.Prelude.{slice_get}
 use Rattle.c_tree.specs.declared.programs.TypedTree.{TypedTree}
 use Rattle.fc_base.specs.Outside.{IsFront}
@@ -23,17 +23,18 @@ pub data After (first : List Event × Standing) (second : List Event × Standing
   same : second ≡ first → After first second
   further : first.1 ≡ Going → IsFront first.0 second.0 → After first second
 
-after_outcome : (events : List Event) (o p : Outcome Value) → Later events o p → After (answer_of o) (answer_of p)
-after_outcome events _ _ (on v s n m le front) = same refl
-after_outcome events _ _ (over more standing front) = same refl
-after_outcome events _ _ (going more (On v s n) front next) = further refl next
-after_outcome events _ _ (going more (Stop events' standing) front next) = further refl next
+after_outcome : (events : List Event) (n m : ℕ) (o p : Outcome Value) → Later events n m o p → After (answer_of o) (answer_of p)
+after_outcome events n m _ _ (on v s i j le is front) = same refl
+after_outcome events n m _ _ (over more standing front) = same refl
+after_outcome events n m _ _ (going more (On v s i) lt front next) = further refl next
+after_outcome events n m _ _ (going more (Stop events' standing) lt front next) = further refl next
 
 after : (tree : TypedTree) (args : List (List ℕ)) (input : Input) (n m : ℕ) → n ≤ m → After (plain tree args input n) (plain tree args input m)
 after tree args input n m le =
     let f = slice_get tree.functions tree.main in
     let s = start tree.objects (params_of f) args input in
-    after_outcome s.events (entry tree args f s n) (entry tree args f s m) ((extends_entry tree args f).later s n m le)
+    after_outcome s.events n m (entry tree args f s n) (entry tree args f s m)
+    ((extends_entry tree {low = suc n} {high = suc m} args f).later s n m le (omega arith) (omega arith))
 
 -- ---- a run that is over
 

@@ -18,16 +18,16 @@ use Rattle.plain_meaning.proofs.Extends.{Extends, extends_pure}
 use Rattle.plain_meaning.proofs.ExtendsValues.{extends_variable}
 use Rattle.plain_meaning.proofs.ExtendsNodes.{part, Alike, alike, AllAlike, none, more, extends_indirection, extends_indexed, extends_selected, extends_data_object, extends_loaded, extends_cast, extends_binary, extends_chosen, extends_last, extends_assignment, extends_prefix, extends_postfix, extends_called, extends_sized}
 
-pub record KindAlike (k l : KindPart) : Type 0 where
+pub record KindAlike (low high : ℕ) (k l : KindPart) : Type 0 where
   pub whole : k.whole ≡ l.whole
-  pub value : (e : TypedExpr) → Extends (k.value e) (l.value e)
-  pub lvalue : (e : TypedExpr) → Extends (k.lvalue e) (l.lvalue e)
+  pub value : (e : TypedExpr) → Extends low high (k.value e) (l.value e)
+  pub lvalue : (e : TypedExpr) → Extends low high (k.lvalue e) (l.lvalue e)
 
-wholes : (ps qs : List Part) → AllAlike ps qs → map (λ p. p.whole) ps ≡ map (λ p. p.whole) qs
+wholes : {low high : ℕ} (ps qs : List Part) → AllAlike low high ps qs → map (λ p. p.whole) ps ≡ map (λ p. p.whole) qs
 wholes _ _ none = refl
 wholes _ _ (more _ _ ps qs (alike e v w x y h k) all) = ap (λ es. e ∷ es) (wholes ps qs all)
 
-same_whole : (p q : Part) → Alike p q → p.whole ≡ q.whole
+same_whole : {low high : ℕ} (p q : Part) → Alike low high p q → p.whole ≡ q.whole
 same_whole _ _ (alike e v w x y h k) = refl
 
 -- parts of parts
@@ -37,22 +37,24 @@ map_map A A' B B' C C' f f' g g' (TypedKind-F.Comma all) = ap (λ es. TypedKind-
 map_map A A' B B' C C' f f' g g' (TypedKind-F.Call callee args) = ap (λ es. TypedKind-F.Call callee es) (map-map g' f' args)
 map_map A A' B B' C C' f f' g g' _ = refl
 
-module _ (tags : List TagDef) (c d : Calls) (calls : (n : ℕ) (at : Place) (vs : List Value) → Extends (c n at vs) (d n at vs)) where
+module _ {low high : ℕ} (tags : List TagDef) (c d : Calls)
+    (calls : (n : ℕ) (at : Place) (vs : List Value) → Extends low high (c n at vs) (d n at vs)) where
   -- a node whose kind is alike
-  node_alike : (k l : KindPart) (t : CType) (at : Place) → KindAlike k l
-      → Alike (expr_part tags c (record { kind = k; ctype = t; place = at })) (expr_part tags d (record { kind = l; ctype = t; place = at }))
+  node_alike : (k l : KindPart) (t : CType) (at : Place) → KindAlike low high k l
+      → Alike low high (expr_part tags c (record { kind = k; ctype = t; place = at })) (expr_part tags d (record { kind = l; ctype = t; place = at }))
   node_alike k l t at h =
       let e : TypedKind → TypedExpr = λ kind. record { kind = kind; ctype = t; place = at } in
-      subst (λ kind. Alike (expr_part tags c (record { kind = k; ctype = t; place = at })) (part (e kind) (l.value (e kind)) (l.lvalue (e kind))))
+      subst (λ kind. Alike low high (expr_part tags c (record { kind = k; ctype = t; place = at })) (part (e kind) (l.value (e kind)) (l.lvalue (e kind))))
       h.whole
       (alike (e k.whole) (k.value (e k.whole)) (l.value (e k.whole)) (k.lvalue (e k.whole)) (l.lvalue (e k.whole)) (h.value (e k.whole)) (h.lvalue (e k.whole)))
 
-  extends_size : (p q : Part) → Alike p q → Extends (pure (Int (size_in tags (type_of p)))) (pure (Int (size_in tags (type_of q))))
+  extends_size : (p q : Part) → Alike low high p q
+      → Extends low high (pure (Int (size_in tags (type_of p)))) (pure (Int (size_in tags (type_of q))))
   extends_size _ _ (alike e v w x y h k) = extends_pure _
 
   -- a kind whose parts are alike
-  module _ (A A' : Type 0) (left right : A → KindPart) (p q : A' → Part) (exprs : (a : A') → Alike (p a) (q a)) where
-    all_alike : (es : List A') → AllAlike (map p es) (map q es)
+  module _ (A A' : Type 0) (left right : A → KindPart) (p q : A' → Part) (exprs : (a : A') → Alike low high (p a) (q a)) where
+    all_alike : (es : List A') → AllAlike low high (map p es) (map q es)
     all_alike [] = none
     all_alike (e ∷ es) = more _ _ _ _ (exprs e) (all_alike es)
 
@@ -78,7 +80,7 @@ module _ (tags : List TagDef) (c d : Calls) (calls : (n : ℕ) (at : Place) (vs 
     layer_whole (TypedKind-F.SizeCall pointer mode) = cc (same_whole _ _ (exprs pointer), same_whole _ _ (exprs mode))
 
     layer_value : (y : TypedKind-F A A') (e : TypedExpr)
-        → Extends (kind_value tags c (map-TypedKind A A' KindPart Part left p y) e) (kind_value tags d (map-TypedKind A A' KindPart Part right q y) e)
+        → Extends low high (kind_value tags c (map-TypedKind A A' KindPart Part left p y) e) (kind_value tags d (map-TypedKind A A' KindPart Part right q y) e)
     layer_value (TypedKind-F.Local n) e = extends_loaded tags c d calls _ _ e (extends_variable n)
     layer_value (TypedKind-F.Object n) e = extends_loaded tags c d calls _ _ e (extends_data_object tags c d calls n)
     layer_value (TypedKind-F.Number n) e = extends_pure _
@@ -99,7 +101,7 @@ module _ (tags : List TagDef) (c d : Calls) (calls : (n : ℕ) (at : Place) (vs 
     layer_value (TypedKind-F.SizeCall pointer mode) e = extends_sized tags c d calls _ _ _ _ e (exprs pointer) (exprs mode)
 
     layer_lvalue : (y : TypedKind-F A A') (e : TypedExpr)
-        → Extends (kind_lvalue tags c (map-TypedKind A A' KindPart Part left p y) e) (kind_lvalue tags d (map-TypedKind A A' KindPart Part right q y) e)
+        → Extends low high (kind_lvalue tags c (map-TypedKind A A' KindPart Part left p y) e) (kind_lvalue tags d (map-TypedKind A A' KindPart Part right q y) e)
     layer_lvalue (TypedKind-F.Local n) e = extends_variable n
     layer_lvalue (TypedKind-F.Object n) e = extends_data_object tags c d calls n
     layer_lvalue (TypedKind-F.Prefix prefix_op.Indirection of) e = extends_indirection tags c d calls _ _ e (exprs of)
@@ -108,17 +110,17 @@ module _ (tags : List TagDef) (c d : Calls) (calls : (n : ℕ) (at : Place) (vs 
     layer_lvalue _ e = extends_pure _
 
     layer_alike : (y : TypedKind-F A A')
-        → KindAlike (kind_part tags c (map-TypedKind A A' KindPart Part left p y)) (kind_part tags d (map-TypedKind A A' KindPart Part right q y))
+        → KindAlike low high (kind_part tags c (map-TypedKind A A' KindPart Part left p y)) (kind_part tags d (map-TypedKind A A' KindPart Part right q y))
     layer_alike y = record { whole = ap roll-TypedKind (layer_whole y); value = layer_value y; lvalue = layer_lvalue y }
 
   abbrev kind_by : Calls → TypedKind → KindPart
   kind_by c = fold-TypedKind KindPart Part (kind_part tags c) (expr_part tags c)
 
   abbrev IsKindAlike : TypedKind → Type 0
-  IsKindAlike k = KindAlike (kind_by c k) (kind_by d k)
+  IsKindAlike k = KindAlike low high (kind_by c k) (kind_by d k)
 
   abbrev pub IsAlike : TypedExpr → Type 0
-  IsAlike e = Alike (part_of tags c e) (part_of tags d e)
+  IsAlike e = Alike low high (part_of tags c e) (part_of tags d e)
 
   -- a kind by what is below it, in whichever form that is given
   module _ (A A' : Type 0) (f : A → TypedKind) (g : A' → TypedExpr) where
@@ -135,8 +137,8 @@ module _ (tags : List TagDef) (c d : Calls) (calls : (n : ℕ) (at : Place) (vs 
 
     rolled_alike : ((a : A') → IsAlike (g a)) → (y : TypedKind-F A A') → IsKindAlike (rolled y)
     rolled_alike exprs y =
-        subst (λ k. KindAlike k (kind_by d (rolled y))) (sym (kind_is c y))
-        (subst (λ k. KindAlike (below c y) k) (sym (kind_is d y))
+        subst (λ k. KindAlike low high k (kind_by d (rolled y))) (sym (kind_is c y))
+        (subst (λ k. KindAlike low high (below c y) k) (sym (kind_is d y))
         (layer_alike A A' (λ a. kind_by c (f a)) (λ a. kind_by d (f a)) (λ a. part_of tags c (g a)) (λ a. part_of tags d (g a)) exprs y))
 
     kind_alike : ((a : A') → IsAlike (g a)) → (x : TypedKind-F TypedKind TypedExpr) (y : TypedKind-F A A')
@@ -152,8 +154,8 @@ module _ (tags : List TagDef) (c d : Calls) (calls : (n : ℕ) (at : Place) (vs 
 
     node_rolled : ((a : A) → IsKindAlike (f a)) → (y : TypedExpr-F A A') → IsAlike (node y)
     node_rolled kinds y =
-        subst (λ p. Alike p (part_of tags d (node y))) (sym (node_is c y))
-        (subst (λ p. Alike (expr_part tags c (record { kind = kind_by c (f y.kind); ctype = y.ctype; place = y.place })) p) (sym (node_is d y))
+        subst (λ p. Alike low high p (part_of tags d (node y))) (sym (node_is c y))
+        (subst (λ p. Alike low high (expr_part tags c (record { kind = kind_by c (f y.kind); ctype = y.ctype; place = y.place })) p) (sym (node_is d y))
         (node_alike (kind_by c (f y.kind)) (kind_by d (f y.kind)) y.ctype y.place (kinds y.kind)))
 
     expr_alike : ((a : A) → IsKindAlike (f a)) → (x : TypedExpr-F TypedKind TypedExpr) (y : TypedExpr-F A A')
@@ -164,8 +166,8 @@ module _ (tags : List TagDef) (c d : Calls) (calls : (n : ℕ) (at : Place) (vs 
   all_exprs = ind-TypedExpr IsKindAlike IsAlike (λ x y is. kind_alike _ _ (λ a. a.0) (λ a. a.0) (λ a. a.1) x y is)
       (λ x y is. expr_alike _ _ (λ a. a.0) (λ a. a.0) (λ a. a.1) x y is)
 
-  extends_part : (p q : Part) → Alike p q → Extends p.value q.value
+  extends_part : (p q : Part) → Alike low high p q → Extends low high p.value q.value
   extends_part _ _ (alike e v w x y h k) = h
 
-  pub extends_value : (e : TypedExpr) → Extends (value_of tags c e) (value_of tags d e)
+  pub extends_value : (e : TypedExpr) → Extends low high (value_of tags c e) (value_of tags d e)
   extends_value e = extends_part _ _ (all_exprs e)

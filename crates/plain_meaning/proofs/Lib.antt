@@ -1,8 +1,8 @@
 mod Bounds
-mod Extends
-mod ExtendsFunctions
+pub mod Extends
+pub mod ExtendsFunctions
 mod ExtendsNodes
-mod ExtendsStatements
+pub mod ExtendsStatements
 pub mod ExtendsTrees
 mod ExtendsValues
 mod Rows
