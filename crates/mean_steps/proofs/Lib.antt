@@ -1,5 +1,6 @@
 mod Ends
 mod Keeps
+mod StatementTrees
 mod Steady
 mod Trees
 mod Weights
