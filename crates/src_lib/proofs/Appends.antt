@@ -86,7 +86,7 @@ module _ (rest : List Value) (d s : PtrValue) where
   look_none false false = refl
 
   module _ (objs : List Object) where
-    looked_for : (reads : Bool) → tested (point_tests args objs pointers (touched_for reads)) (Ok (tt {0})) ≡ pointed objs d s true reads
+    pub looked_for : (reads : Bool) → tested (point_tests args objs pointers (touched_for reads)) (Ok (tt {0})) ≡ pointed objs d s true reads
     looked_for true = look (is_dead objs d) (is_dead objs s) (is_null d) (is_null s)
     looked_for false = look_one (is_dead objs d) (is_dead objs s) (is_null d)
 
@@ -96,7 +96,7 @@ module _ (rest : List Value) (d s : PtrValue) where
     looked_both false = look_none (is_dead objs d) (is_dead objs s)
 
     -- the row goes on behind it
-    point_row : {A : Type 0} (touched : List ℕ) (p : Result (Unit {0}) UndefKind) (f : List Object → Result A ObjectStop)
+    pub point_row : {A : Type 0} (touched : List ℕ) (p : Result (Unit {0}) UndefKind) (f : List Object → Result A ObjectStop)
         → tested (point_tests args objs pointers touched) (Ok (tt {0})) ≡ p
         → and_then (unless_undefined (tested (point_tests args objs pointers touched) (Ok objs))) f
         ≡ and_then (unless_undefined p) (λ u. f objs)

@@ -31,11 +31,11 @@ use Rattle.src_lib.proofs.Scans.{length_found}
 
 -- ---- numbers among arguments that have their types
 
-both_true : (a b : Bool) → a && b ≡ true → (a ≡ true) × (b ≡ true)
+pub both_true : (a b : Bool) → a && b ≡ true → (a ≡ true) × (b ≡ true)
 both_true true b h = (refl, h)
 both_true false b h = absurd (cc)
 
-none_true : (a b : Bool) → a || b ≡ false → (a ≡ false) × (b ≡ false)
+pub none_true : (a b : Bool) → a || b ≡ false → (a ≡ false) × (b ≡ false)
 none_true false b h = (refl, h)
 none_true true b h = absurd (cc)
 

@@ -1,5 +1,7 @@
+mod Acting
 mod Appends
 mod Asking
+mod Exceeding
 mod Ordering
 mod Pairing
 mod Rows

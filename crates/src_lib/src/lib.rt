@@ -1,6 +1,7 @@
 //! The library's calls over objects.
 #![tactic(auto)]
 
+mod acts;
 mod blocks;
 mod copies;
 mod ends;
@@ -10,6 +11,7 @@ mod requests;
 mod strings;
 mod texts;
 
+pub use acts::act;
 pub use blocks::memcmp;
 pub use copies::{bzero, memcpy, memmove, mempcpy, memset};
 pub use ends::Stop;

@@ -73,7 +73,7 @@ fn put_text(
 }
 
 /// Looks at the two pointers of a call, and at those of them that it touches.
-fn point(
+pub fn point(
     memory: &Memory,
     d: PtrValue,
     s: PtrValue,
