@@ -1,4 +1,9 @@
 pub mod Bounds
+pub mod Checked
+pub mod Gathering
 pub mod Ints
+pub mod Listing
 pub mod NamedTypes
+pub mod Nodes
 pub mod Standing
+pub mod Turns

@@ -101,7 +101,7 @@ repeated_size n None = refl
 repeated_size n (Some l) = refl
 
 module _ (tags : List TagDef) where
-  sized_alike : (t u : CType) → AlikeSizes (size_of tags t) (size_of tags u) → is_some (layout tags t) ≡ is_some (layout tags u)
+  pub sized_alike : (t u : CType) → AlikeSizes (size_of tags t) (size_of tags u) → is_some (layout tags t) ≡ is_some (layout tags u)
   sized_alike t u a = sym (some_size (layout tags t)) ∙ (some_alike _ _ a ∙ some_size (layout tags u))
 
   large_alike : (t u : CType) → AlikeSizes (size_of tags t) (size_of tags u) → is_too_large tags t ≡ is_too_large tags u
@@ -115,13 +115,13 @@ pointer_array t = search (rules, the_lemmas)
 pointer_open : (t : CType) → is_open_array (Ptr t) ≡ false
 pointer_open t = search (rules, the_lemmas)
 
-pointer_structure : (t : CType) → is_structure (Ptr t) ≡ false
+pub pointer_structure : (t : CType) → is_structure (Ptr t) ≡ false
 pointer_structure t = search (rules, the_lemmas)
 
 pointer_element : (t : CType) → element (Ptr t) ≡ Void
 pointer_element t = search (rules, the_lemmas)
 
-pointer_layout : (tags : List TagDef) (t : CType) → layout tags (Ptr t) ≡ Some (scalar 8)
+pub pointer_layout : (tags : List TagDef) (t : CType) → layout tags (Ptr t) ≡ Some (scalar 8)
 pointer_layout tags t = search (rules, the_lemmas)
 
 bounded_array : (t : CType) (n : ℕ) → is_array (Array t n) ≡ true
@@ -203,7 +203,7 @@ made_type : (m : Made) → type_made (made_of m) ≡ type_of m
 made_type (Object t) = refl
 made_type (Function params of) = refl
 
-whole_type : (d : Declared) (m : Made) → d ≡ made_of m → type_made d ≡ type_of m
+pub whole_type : (d : Declared) (m : Made) → d ≡ made_of m → type_made d ≡ type_of m
 whole_type d m e = ap type_made e ∙ made_type m
 
 neither : (a b : Bool) → a || b ≡ false → (a ≡ false) × (b ≡ false)

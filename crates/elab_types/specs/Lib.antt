@@ -1,5 +1,7 @@
+pub mod Answers
 pub mod Forming
 pub mod Nests
 pub mod Shapes
+pub mod Specifiers
 pub mod Stands
 pub mod Words

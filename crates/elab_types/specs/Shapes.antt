@@ -2,6 +2,7 @@
 use Rattle.std.specs.Prelude.{ℕ, ℤ, List, [], ◌∷◌, map, fold, Option, None, Some}
 use Rattle.std.specs.Option.{option_map}
 use Rattle.c_arithmetic.specs.Arithmetic.{integer}
+use Rattle.fc_base.specs.declared.refusals.Place.{Place}
 use Rattle.c_layout.specs.declared.tags.TagDef.{TagDef}
 use Rattle.c_layout.specs.declared.types.CType.{CType}
 use Rattle.elab_meaning.specs.Declarations.{count}
@@ -25,6 +26,9 @@ types_of = map (λ p. p.ctype)
 
 abbrev pub parameter : Parameter → Declared
 parameter p = record { name = p.name; place = p.place; ctype = p.ctype }
+
+abbrev pub named_param : Option (List ℕ) → Place → CType → Parameter
+named_param name place t = record { name = name; place = place; ctype = t }
 
 -- ---- as the definition sees them
 

@@ -9,6 +9,7 @@ ghost use Rattle.elab_types.specs.Stands.{is_over, is_settled};
 ghost use Rattle.elab_types.specs.Forming.{type_of, is_function, is_zero, is_wide, array_of, deeper_of, deepest_of, unformed, pointed_to, starred, arrayed, returned};
 
 use c_layout::{CType, DEEPEST_TYPE, Depth, LayoutFault, Tags, depths_of, is_array, layout_of};
+use elab_conversions::has_size;
 use fc_base::NoMemory;
 use shared_values::Shared;
 use sqlite_items::Items;
@@ -53,14 +54,14 @@ const NOTHING_BROKEN: Broken = Broken {
 };
 
 impl Made {
-    fn is_function(&self) -> bool
+    pub fn is_function(&self) -> bool
         ensures { result ≡ is_function self.now }
     {
         matches!(self, Made::Function { .. })
     }
 
     /// The type of an object. Of a function it is void, which no accepted declaration shows.
-    fn into_type(self) -> CType
+    pub fn into_type(self) -> CType
         ensures { result ≡ type_of self }
     {
         match self {
@@ -86,15 +87,6 @@ fn deepest(a: Depth, b: Depth) -> Depth
     }
 }
 
-fn has_size(tags: &Tags, ctype: &CType) -> bool
-    ensures { result ≡ is_some (layout tags.now ctype.now) }
-{
-    match layout_of(tags, ctype) {
-        Err(LayoutFault::Incomplete) => false,
-        _ => true,
-    }
-}
-
 fn is_too_large(tags: &Tags, ctype: &CType) -> bool
     ensures { result ≡ is_too_large tags.now ctype.now }
 {
@@ -104,7 +96,7 @@ fn is_too_large(tags: &Tags, ctype: &CType) -> bool
     }
 }
 
-fn is_structure(ctype: &CType) -> bool
+pub fn is_structure(ctype: &CType) -> bool
     ensures { result ≡ is_structure ctype.now }
 {
     matches!(ctype, CType::Struct(_) | CType::Union(_))

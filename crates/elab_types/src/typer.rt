@@ -1,8 +1,9 @@
 //! Bounds of arrays and values of enumerators (C11 6.6, 6.7.2.2 and 6.7.6.2), over a function that types expressions.
 
-ghost use Rattle.std.specs.Prelude.{◌≡◌, is_none, unwrap_or, pos, [], ◌∷◌};
+ghost use Rattle.std.specs.Prelude.{◌≡◌, ◌≤◌, is_none, unwrap_or, pos, [], ◌∷◌};
 ghost use Rattle.std.specs.Option.{option_map};
 ghost use Rattle.fc_base.specs.declared.rules.Rule.TheVariants.{NotConstant};
+ghost use Rattle.c_tree.specs.Heights.{expr_height};
 ghost use Rattle.elab_meaning.specs.Conversions.{decayed, value_of};
 ghost use Rattle.elab_meaning.specs.Declarations.{bound_part};
 ghost use Rattle.elab_meaning.specs.Trees.{read_expr};
@@ -46,8 +47,8 @@ fn bound_of(tags: &Tags, value: TypedExpr, at: Place) -> Result<Bound, Fault>
     }
 }
 
-/// Specifiers, declarators and type names, over a function that types expressions. It is passed how deep expressions may
-/// still nest, which is less than what the caller was passed.
+/// Specifiers, declarators and type names, over a function that types expressions. It is passed how high the expressions in
+/// them may be, which is less than what the caller was passed.
 #[derive(Clone, Copy)]
 pub struct Typer<F> {
     pub alloc: Global,
@@ -58,7 +59,8 @@ pub struct Typer<F> {
 impl<F: Fn(Global, &mut State, &Expr, usize) -> Result<TypedExpr, Fault>> Typer<F> {
     /// An expression before any conversion of its context.
     fn expression(&self, state: &mut State, expr: &Expr) -> Result<TypedExpr, Fault>
-        requires { Nests self.now.room (F.pre self.now.expr) (F.post self.now.expr) }
+        requires nests { Nests self.now.room (F.pre self.now.expr) (F.post self.now.expr) }
+        requires low { expr_height expr.now ≤ self.now.room }
         ensures types { Types (read_expr expr.now).typed state.old result state.new }
         ensures grows { Grows state.old state.new }
     {
@@ -67,7 +69,8 @@ impl<F: Fn(Global, &mut State, &Expr, usize) -> Result<TypedExpr, Fault>> Typer<
 
     /// A bound, or the value of an enumerator: an integer constant expression.
     pub fn bound(&self, state: &mut State, bound: &Expr) -> Result<Bound, Fault>
-        requires { Nests self.now.room (F.pre self.now.expr) (F.post self.now.expr) }
+        requires nests { Nests self.now.room (F.pre self.now.expr) (F.post self.now.expr) }
+        requires low { expr_height bound.now ≤ self.now.room }
         ensures types { TypesAs value_in (bound_part (read_expr bound.now)) state.old result state.new }
         ensures grows { Grows state.old state.new }
     {
