@@ -1,0 +1,9 @@
+//! Initialisers: what their items become, and the data of static variables.
+#![tactic(auto)]
+
+mod bytes;
+mod data;
+mod leaves;
+
+pub use data::StaticData;
+pub use leaves::{Target, completed, is_char_array, leaf, text_leaf};
