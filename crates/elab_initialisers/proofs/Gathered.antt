@@ -1,5 +1,5 @@
 -- The leaves of a list are those of its initialisers, one after the other.
-use Rattle.std.proofs.Common.{◌≡◌, ℕ, ◌+◌, ◌<◌, List, ◌++◌, length, get_or, drop, sym, ap, ◌∙◌, append_assoc}
+use Rattle.std.proofs.Common.{◌≡◌, ℕ, ◌+◌, ◌<◌, List, [], ◌∷◌, ◌++◌, length, get_or, drop, sym, ap, ◌∙◌, append_assoc}
 use Rattle.std.specs.Prelude.{flat_map}
 use Rattle.std.proofs.lemmas.List.{at_drop_more}
 use Rattle.std.proofs.lemmas.List.Elements.{filter_map-append}
@@ -8,10 +8,14 @@ use Rattle.fc_base.specs.declared.refusals.Place.{Place}
 use Rattle.c_layout.specs.declared.tags.TagDef.{TagDef}
 use Rattle.c_tree.specs.declared.programs.DataDef.{DataDef}
 use Rattle.c_tree.specs.declared.programs.Link.{Link}
+use Rattle.c_tree.specs.declared.typed.TypedExpr.{TypedExpr}
 use Rattle.c_tree.specs.declared.typed.TypedInit.{TypedInit}
 use Rattle.c_tree.specs.declared.typed.TypedInit.TheFolds.{fold-roll-TypedInit}
 use Rattle.c_tree.specs.declared.typed.TypedInit.TheVariants as init
 use Rattle.elab_meaning.specs.Initialisers.{Leaf, leaves, leaves_layer, link_of, links_of}
+
+pub leaves-Expr : (at : ℕ) (x : TypedExpr) → leaves (init.Expr at x) ≡ record { offset = at; value = x } ∷ []
+leaves-Expr at x = ap leaves (sym (init.rolls-Expr at x)) ∙ fold-roll-TypedInit (List Leaf) leaves_layer _
 
 pub leaves-List : (items : List TypedInit) (place : Place) → leaves (init.List items place) ≡ flat_map leaves items
 leaves-List items place =

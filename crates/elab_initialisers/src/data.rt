@@ -1,7 +1,10 @@
-//! The data of static variables: the bytes and links that their initialisers' leaves make (C11 6.7.9p4 and p10).
+//! Static variables: the constants that their initialisers' leaves must be, and the bytes and links that these make (C11 6.7.9p4 and
+//! p10).
 
 ghost use Rattle.std.specs.Prelude.{◌≡◌, ℕ, ◌++◌, [], ◌∷◌, IfOk, OnOk};
 ghost use Rattle.elab_meaning.specs.Initialisers.{is_constant_leaf, leaf_bytes, leaves, links_of, stored, variable_of};
+ghost use Rattle.elab_meaning.specs.Statements.{constant_leaves};
+ghost use Rattle.elab_scope.specs.States.{Types};
 ghost use Rattle.elab_initialisers.specs.Stored.{stored_leaves};
 
 use crate::bytes::{store, store_number};
@@ -9,9 +12,41 @@ use c_layout::Tags;
 use c_tree::{DataDef, Link, TypedExpr, TypedInit, TypedKind, constant_of, int_type};
 use elab_constants::{address_of, is_constant};
 use elab_meaning::Pointer;
-use fc_base::{NoMemory, Text};
+use elab_scope::State;
+use fc_base::{Fault, NoMemory, Rule, Text};
 use sqlite_items::Items;
 use std::alloc::Global;
+
+/// Whether a leaf is constant: a string is.
+pub fn is_constant_leaf(tags: &Tags, objects: &[DataDef], value: &TypedExpr) -> bool
+    ensures { (offset : ℕ) → result ≡ is_constant_leaf tags.now objects.now (record { offset = offset; value = value.now }) }
+{
+    match &value.kind {
+        TypedKind::Str(_) => true,
+        _ => is_constant(tags, objects, value),
+    }
+}
+
+/// Refuses the first leaf that isn't constant.
+pub fn constant_leaves(state: &State, init: &TypedInit) -> Result<(), Fault>
+    ensures { Types (constant_leaves (leaves init.now)) state.now result state.now }
+{
+    match init {
+        TypedInit::Expr { value, .. } => {
+            if is_constant_leaf(state.scope.tags(), state.scope.objects(), value) {
+                Ok(())
+            } else {
+                Err(Fault::refused(Rule::NotConstant, value.place))
+            }
+        }
+        TypedInit::List { items, .. } => {
+            for item in items.as_slice() {
+                constant_leaves(state, item)?;
+            }
+            Ok(())
+        }
+    }
+}
 
 /// What the data of static variables are made by: the structures and unions, and the data objects so far.
 #[derive(Clone, Copy)]
@@ -22,16 +57,6 @@ pub struct StaticData<'a> {
 }
 
 impl StaticData<'_> {
-    /// Whether a leaf is constant: a string is.
-    pub fn is_constant_leaf(&self, value: &TypedExpr) -> bool
-        ensures { (offset : ℕ) → result ≡ is_constant_leaf self.now.tags.now self.now.objects.now (record { offset = offset; value = value.now }) }
-    {
-        match &value.kind {
-            TypedKind::Str(_) => true,
-            _ => is_constant(self.tags, self.objects, value),
-        }
-    }
-
     /// Stores the bytes of a leaf. Those of a pointer are zero, and its link says where it points.
     fn store_leaf(&self, bytes: &mut Vec<u8>, at: u32, value: &TypedExpr) -> Result<(), NoMemory>
         ensures { OnOk result (bytes.new.items ≡ stored at (leaf_bytes self.now.tags.now self.now.objects.now (record { offset = at; value = value.now })) bytes.old.items) }

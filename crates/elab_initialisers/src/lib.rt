@@ -5,5 +5,5 @@ mod bytes;
 mod data;
 mod leaves;
 
-pub use data::StaticData;
+pub use data::{StaticData, constant_leaves, is_constant_leaf};
 pub use leaves::{Target, completed, is_char_array, leaf, text_leaf};
