@@ -3,7 +3,9 @@ mod Appends
 mod Asking
 mod Exceeding
 mod Ordering
+mod Owning
 mod Pairing
+mod Rooming
 mod Rows
 mod Scans
 mod Tests

@@ -2,8 +2,12 @@ pub mod Acts
 pub mod Blocks
 pub mod Does
 pub mod Ends
+pub mod Heaped
+pub mod Owners
+pub mod OwnersSeen
 pub mod Pairs
 pub mod Reaches
 pub mod Requests
+pub mod StateSeen
 pub mod Stores
 pub mod Texts
