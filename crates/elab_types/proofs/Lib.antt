@@ -2,6 +2,10 @@ pub mod Bounds
 pub mod Checked
 pub mod Gathering
 pub mod Ints
+pub mod Keeping
+pub mod KeepingDeclarations
+pub mod KeepingExpressions
+pub mod KeepingTrees
 pub mod Listing
 pub mod NamedTypes
 pub mod Nodes

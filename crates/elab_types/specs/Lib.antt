@@ -1,5 +1,6 @@
 pub mod Answers
 pub mod Forming
+pub mod Keeps
 pub mod Nests
 pub mod Shapes
 pub mod Specifiers
